@@ -1,0 +1,16 @@
+pub mod Walking
+pub mod Lines
+pub mod Steps
+pub mod Passed
+pub mod Slots
+pub mod Cutting
+pub mod Heads
+pub mod Limited
+pub mod BodyLines
+pub mod Bodies
+pub mod Lengths
+pub mod Trips
+pub mod Shapes
+pub mod Parts
+pub mod Empties
+pub mod Wholes

@@ -1,0 +1,5 @@
+pub mod Cuts
+pub mod Numbers
+pub mod Runs
+pub mod Lines
+pub mod Scratch

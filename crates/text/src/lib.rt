@@ -1,0 +1,3 @@
+mod digits;
+pub mod fields;
+pub mod lines;
