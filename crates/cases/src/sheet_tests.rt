@@ -1,35 +1,34 @@
 use crate::sheet_texts::between;
-use sheets::answers::checked;
 use std::alloc::Global;
 use std::test::*;
+use writers::answers::checks::checked;
 
 const WIRE: &str = "wire,1,2,30,1,2,3,5,70000\n";
 
 // The answer to a sheet is this one.
-fn answered(heap: Global, input: &[u8], answer: &str) -> Result<(), Fail> {
-    check_eq(checked(heap, input)?.as_slice(), answer.as_bytes())
+fn answered(input: &[u8], answer: &str) -> Result<(), Fail> {
+    check_eq(checked(input).text(), answer.as_bytes())
 }
 
 // Each sheet comes back as it is.
-fn all_accepted(heap: Global, inputs: &[&str]) -> Result<(), Fail> {
+fn all_accepted(inputs: &[&str]) -> Result<(), Fail> {
     for input in inputs {
-        answered(heap, input.as_bytes(), input)?;
+        answered(input.as_bytes(), input)?;
     }
     Ok(())
 }
 
 // Each sheet is refused with the line beside it.
-fn all_refused(heap: Global, cases: &[(&str, &str)]) -> Result<(), Fail> {
+fn all_refused(cases: &[(&str, &str)]) -> Result<(), Fail> {
     for (input, answer) in cases {
-        answered(heap, input.as_bytes(), answer).note(input)?;
+        answered(input.as_bytes(), answer).note(input)?;
     }
     Ok(())
 }
 
 #[test]
-fn good_sheets_come_back(rt: LibcRuntime) -> Result<(), Fail> {
+fn good_sheets_come_back() -> Result<(), Fail> {
     all_accepted(
-        rt.alloc(),
         &[
             "sheet,9,23,23\nwire,1,2,30,1,2,3,5,70000\nend,1\n",
             "sheet,9,23,23\nend,0\n",
@@ -43,9 +42,8 @@ fn good_sheets_come_back(rt: LibcRuntime) -> Result<(), Fail> {
 }
 
 #[test]
-fn words_and_lines(rt: LibcRuntime) -> Result<(), Fail> {
+fn words_and_lines() -> Result<(), Fail> {
     all_refused(
-        rt.alloc(),
         &[
             ("", "refused,53,2,1,1\n"),
             ("\n", "refused,53,2,1,1\n"),
@@ -87,9 +85,8 @@ fn words_and_lines(rt: LibcRuntime) -> Result<(), Fail> {
 }
 
 #[test]
-fn fields(rt: LibcRuntime) -> Result<(), Fail> {
+fn fields() -> Result<(), Fail> {
     all_refused(
-        rt.alloc(),
         &[
             ("sheet,09,23,23\nend,0\n", "refused,51,1,1,2\n"),
             ("sheet,,23,23\nend,0\n", "refused,51,1,1,2\n"),
@@ -116,9 +113,8 @@ fn fields(rt: LibcRuntime) -> Result<(), Fail> {
 }
 
 #[test]
-fn limits(rt: LibcRuntime) -> Result<(), Fail> {
+fn limits() -> Result<(), Fail> {
     all_refused(
-        rt.alloc(),
         &[
             (
                 "sheet,9,23,23\nwire,1001,2,30,1,2,3,5,70000\nend,1\n",
@@ -157,7 +153,7 @@ fn twenty_four_wires_and_one_more(rt: LibcRuntime) -> Result<(), Fail> {
         24,
         b"end,24\n",
     )?;
-    check_eq(checked(heap, full.as_slice())?.as_slice(), full.as_slice())?;
+    check_eq(checked(full.as_slice()).text(), full.as_slice())?;
     let over = between(
         heap,
         b"sheet,300,123456,123456\n",
@@ -165,7 +161,7 @@ fn twenty_four_wires_and_one_more(rt: LibcRuntime) -> Result<(), Fail> {
         25,
         b"end,25\n",
     )?;
-    answered(heap, over.as_slice(), "refused,13,3,26,0\n")
+    answered(over.as_slice(), "refused,13,3,26,0\n")
 }
 
 // A head whose last field and line end come to exactly so many bytes.
@@ -176,14 +172,6 @@ fn long_head(heap: Global, len: usize) -> Result<Vec<u8>, Fail> {
 #[test]
 fn the_first_4096_bytes_are_read(rt: LibcRuntime) -> Result<(), Fail> {
     let heap = rt.alloc();
-    answered(
-        heap,
-        long_head(heap, 4096)?.as_slice(),
-        "refused,51,1,1,4\n",
-    )?;
-    answered(
-        heap,
-        long_head(heap, 4097)?.as_slice(),
-        "refused,52,2,1,0\n",
-    )
+    answered(long_head(heap, 4096)?.as_slice(), "refused,51,1,1,4\n")?;
+    answered(long_head(heap, 4097)?.as_slice(), "refused,52,2,1,0\n")
 }

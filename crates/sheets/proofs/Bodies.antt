@@ -17,7 +17,7 @@ use Rattle.drawing.specs.Lists.{all}
 use Rattle.drawing.specs.Plans.{Plan, Sound, over-limit, within-limits, too-narrow}
 use Rattle.drawing.proofs.Fits.{fewer-fit}
 use Rattle.drawing.proofs.Lists.{all-append}
-use Rattle.text.specs.Cuts.{cut-first, cut-rest, cut-at, after-each, join-by}
+use Rattle.text.specs.Cuts.{cut-first, cut-rest, cut-at, led-by, join-by}
 use Rattle.sheets.specs.declared.reading.Body.{Body}
 use Rattle.sheets.specs.declared.reading.Body.the-variants.{AWire, TheEnd}
 use Rattle.sheets.specs.Faults.{bundle-fault, wire-field}
@@ -127,7 +127,7 @@ wire-written p w q l text f r = record {
 }
 
 -- where nothing is left there is no byte
-left-empty : (m : List ℕ) (ms : List (List ℕ)) → nothing-left m ms ≡ true → [] ≡ m ++ after-each 10 ms
+left-empty : (m : List ℕ) (ms : List (List ℕ)) → nothing-left m ms ≡ true → [] ≡ m ++ led-by 10 ms
 left-empty [] [] e = refl
 left-empty [] (m ∷ ms) e = absurd (true≢false (sym e))
 left-empty (c ∷ cs) ms e = absurd (true≢false (sym e))

@@ -4,7 +4,7 @@ use mathlib.Core.List.{List, [], _∷_, _++_, append-assoc}
 use Prim.Native.Nat.{ℕ}
 use native.Mathlib.Omega.{arith}
 use Rattle.std.specs.shelf.Lists.{All}
-use Rattle.text.specs.Cuts.{cut-first, cut-rest, cut-at, after-each, join-by}
+use Rattle.text.specs.Cuts.{cut-first, cut-rest, cut-at, led-by, join-by}
 use Rattle.text.specs.Lines.{line-of}
 use Rattle.text.proofs.Cuts.{Without, first-front, rest-front, cut-join, join-cut, without-append, without-after}
 
@@ -22,7 +22,7 @@ pub record Lined (text : List ℕ) (fields : List (List ℕ)) (bs : List ℕ) : 
 pub lined : (f : List ℕ) (fs : List (List ℕ)) (bs : List ℕ) → Plain (f ∷ fs) → Lined (line-of (f ∷ fs) ++ bs) (f ∷ fs) bs
 lined f fs bs p =
     let x = join-by 44 (f ∷ fs) in
-    let w : Without 10 x = without-append 10 f (after-each 44 fs) (p .ends .0) (without-after 10 fs (omega arith) (p .ends .1)) in
+    let w : Without 10 x = without-append 10 f (led-by 44 fs) (p .ends .0) (without-after 10 fs (omega arith) (p .ends .1)) in
     let e : line-of (f ∷ fs) ++ bs ≡ x ++ (10 ∷ bs) = append-assoc x (10 ∷ []) bs in
     record {
       first = ap (λ z. cut-at 44 (cut-first 10 z)) e ∙ (ap (cut-at 44) (first-front 10 x bs w) ∙ cut-join 44 f fs (p .commas .0) (p .commas .1));

@@ -16,7 +16,7 @@ use Rattle.drawing.specs.declared.words.Wire.{Wire}
 use Rattle.drawing.specs.declared.words.Grid.{Grid}
 use Rattle.drawing.specs.Lists.{all}
 use Rattle.drawing.specs.Plans.{bad-channel, over-limit, within-limits}
-use Rattle.text.specs.Cuts.{after-each, join-by}
+use Rattle.text.specs.Cuts.{led-by, join-by}
 use Rattle.text.specs.Lines.{line-of}
 use Rattle.text.specs.Runs.{run-text}
 use Rattle.text.proofs.Runs.{length-run}
@@ -29,14 +29,14 @@ spread [] = 0
 spread (f ∷ fs) = length f + spread fs + 1
 
 -- parts with a comma before each have that many bytes
-length-after : (fs : List (List ℕ)) → length (after-each 44 fs) ≡ spread fs
+length-after : (fs : List (List ℕ)) → length (led-by 44 fs) ≡ spread fs
 length-after [] = refl
-length-after (f ∷ fs) = omega (arith, length-append f (after-each 44 fs), length-after fs)
+length-after (f ∷ fs) = omega (arith, length-append f (led-by 44 fs), length-after fs)
 
 -- the bytes of a line
 length-line : (f : List ℕ) (fs : List (List ℕ)) → length (line-of (f ∷ fs)) ≡ length f + spread fs + 1
 length-line f fs =
-    omega (arith, length-append (join-by 44 (f ∷ fs)) (10 ∷ []), length-append f (after-each 44 fs), length-after fs)
+    omega (arith, length-append (join-by 44 (f ∷ fs)) (10 ∷ []), length-append f (led-by 44 fs), length-after fs)
 
 -- a head line has at most 24 bytes
 pub head-longest : (grid : Grid) (channel : ℕ) → bad-channel channel ≡ false → length (head-text grid channel) ≤ 24

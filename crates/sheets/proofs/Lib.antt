@@ -10,7 +10,3 @@ pub mod BodyLines
 pub mod Bodies
 pub mod Lengths
 pub mod Trips
-pub mod Shapes
-pub mod Parts
-pub mod Empties
-pub mod Wholes

@@ -8,7 +8,6 @@ use Rattle.std.specs.shelf.Lists.{joined}
 use Rattle.std.specs.declared.result.Result.{Result}
 use Rattle.std.specs.declared.result.Result.the-variants.{Ok, Err}
 use Rattle.std.proofs.shelf.Lists.{length-append}
-use Rattle.std.specs.Vec.{made}
 use Rattle.drawing.specs.declared.drawings.Drawing.{Drawing}
 use Rattle.drawing.specs.Shown.{plan-of, planned}
 use Rattle.drawing.specs.declared.words.Wire.{Wire}
@@ -20,7 +19,7 @@ use Rattle.text.proofs.Cuts.{join-cut}
 use Rattle.sheets.specs.declared.faults.Fault.{Fault}
 use Rattle.sheets.specs.Reads.{and-then, head-line, read-rest, read-lines, read-sheet}
 use Rattle.sheets.specs.Texts.{head-text, wire-text, end-text, sheet-text}
-use Rattle.sheets.specs.Trips.{ReadsBack, WritesBack}
+use Rattle.sheets.specs.Trips.{ReadsBack, Exactly}
 use Rattle.sheets.proofs.Bodies.{body-reads, body-writes}
 use Rattle.sheets.proofs.Heads.{head-lined, head-reads, head-writes, head-again}
 use Rattle.sheets.proofs.Lengths.{head-longest, wires-longest, end-longest}
@@ -53,7 +52,7 @@ lines-write l (m ∷ ms) p e =
     ∙ (ap (λ z. (l ++ 10 ∷ []) ++ z) (body .spelled) ∙ append-assoc l (10 ∷ []) (join-by 10 (m ∷ ms))))
 
 -- an accepted sheet is what its drawing writes, byte for byte
-pub writes-back : (bytes : List ℕ) → WritesBack bytes
+pub writes-back : (bytes : List ℕ) (p : Plan) → read-sheet bytes ≡ Ok p → sheet-text p ≡ bytes
 writes-back bytes p e = lines-write (cut-first 10 bytes) (cut-rest 10 bytes) p e ∙ join-cut 10 bytes
 
 -- a sheet has at most 1207 bytes
@@ -69,7 +68,7 @@ longest p s =
       length-append (joined wire-text (p .wires)) (end-text (length (p .wires))),
     )
 
--- a drawing that was read is what the bytes say
-pub read-again : (r : Result Drawing Fault) (bytes : List ℕ) → planned r ≡ read-sheet bytes → made r (λ d. sheet-text (plan-of d) ≡ bytes)
-read-again (Ok d) bytes e = writes-back bytes (plan-of d) (sym e)
-read-again (Err f) bytes e = tt
+-- what reading answers tells the sheets of drawings from all other bytes
+pub exactly : (r : Result Drawing Fault) (bytes : List ℕ) → planned r ≡ read-sheet bytes → Exactly r bytes
+exactly (Ok d) bytes e = writes-back bytes (plan-of d) (sym e)
+exactly (Err f) bytes e = λ p s w. not-both f p (e ∙ ap read-sheet (sym w) ∙ reads-back p s)

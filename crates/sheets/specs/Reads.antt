@@ -101,7 +101,7 @@ body-line line count l =
 abbrev pub inserted-last : Plan → Wire → Result Plan Refusal
 inserted-last p w = unless-refused (edit-reply p (Insert (length (p .wires)) w)) (made p (Insert (length (p .wires)) w))
 
--- nothing stands after the last line end
+-- nothing stands after the end line: m is the part after its line end, and ms are the parts after that
 abbrev pub nothing-left : List ℕ → List (List ℕ) → Bool
 nothing-left [] [] = true
 nothing-left [] (m ∷ ms) = false

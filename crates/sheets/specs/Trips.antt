@@ -1,9 +1,15 @@
--- Reading and writing undo each other. Assumes nothing.
+-- Exactly the sheets that drawings write are accepted. Assumes nothing.
 use mathlib.Core.Path.{_≡_}
-use mathlib.Core.List.{List}
-use Prim.Native.Nat.{ℕ}
+use mathlib.Core.List.{List, map}
+use Prim.Native.Nat.{ℕ, _-_, _≤_}
+use Rattle.std.specs.declared.result.Result.{Result}
 use Rattle.std.specs.declared.result.Result.the-variants.{Ok, Err}
+use Rattle.drawing.specs.declared.drawings.Drawing.{Drawing}
 use Rattle.drawing.specs.Plans.{Plan, Sound}
+use Rattle.drawing.specs.Shown.{plan-of}
+use Rattle.drawing.specs.Steps.{steps}
+use Rattle.text.specs.Runs.{run-text}
+use Rattle.sheets.specs.declared.faults.Fault.{Fault}
 use Rattle.sheets.specs.Texts.{sheet-text}
 use Rattle.sheets.specs.Reads.{read-sheet}
 
@@ -11,6 +17,11 @@ use Rattle.sheets.specs.Reads.{read-sheet}
 abbrev pub ReadsBack : Plan → Type 0
 ReadsBack p = read-sheet (sheet-text p) ≡ Ok p
 
--- an accepted sheet is what its drawing writes, byte for byte
-abbrev pub WritesBack : List ℕ → Type 0
-WritesBack bytes = (p : Plan) → read-sheet bytes ≡ Ok p → sheet-text p ≡ bytes
+-- accepted, the bytes are what the drawing writes; refused, they are what no drawing writes
+abbrev pub Exactly : Result Drawing Fault → List ℕ → Type 0
+Exactly (Ok d) bytes = sheet-text (plan-of d) ≡ bytes
+Exactly (Err f) bytes = (p : Plan) → Sound p → sheet-text p ≡ bytes → ⊥
+
+-- the digits of a run are the steps that its byte allows
+abbrev pub RunsAreSteps : Type 0
+RunsAreSteps = (byte : ℕ) → byte ≤ 63 → map (λ c. c - 48) (run-text byte) ≡ steps byte

@@ -1,9 +1,4 @@
-// Sheets: a drawing as lines of text, read and written.
-pub mod answers;
+// Sheets: a drawing as lines of text, and how it is read.
 pub mod faults;
-mod line_texts;
 mod reader;
 pub mod reading;
-pub mod states;
-pub mod whole;
-pub mod writing;

@@ -1,14 +1,16 @@
+ghost use mathlib.Core.Bool.{false};
 ghost use mathlib.Core.Path.{_≡_};
 ghost use mathlib.Core.List.{List, [], _∷_};
 ghost use Prim.Native.Nat.{ℕ, _+_, _≤_};
 ghost use lib.ListN.{length};
+ghost use Rattle.std.specs.Results.{isOk};
 ghost use Rattle.std.specs.Vec.{made};
 ghost use Rattle.std.specs.shelf.Text.{sameBytes};
 ghost use Rattle.drawing.specs.Shown.{plan-of, planned};
 ghost use Rattle.text.specs.Cuts.{cut-first, cut-rest, cut-at, line-count};
 ghost use Rattle.sheets.specs.Faults.{head-field, wire-field, bundle-fault};
 ghost use Rattle.sheets.specs.Reads.{head-line, body-line, read-body, read-sheet, ended, or-placed, inserted-last};
-ghost use Rattle.sheets.specs.Texts.{sheet-text};
+ghost use Rattle.sheets.specs.Trips.{Exactly, RunsAreSteps};
 ghost use Rattle.sheets.specs.Walks.{rest, after-fields, wire-front, head-front, going-on};
 use crate::faults::Fault;
 use crate::faults::Layer;
@@ -156,7 +158,8 @@ impl<'a> Reader<'a> {
 
     // Adds a wire at the end of a drawing, or says where the line is at fault.
     fn take_wire(&self, drawing: &mut Drawing, wire: Wire) -> Result<(), Fault>
-        ensures { λ r. ⌜ going-on r (plan-of (now (drawing .exit))) ≡ or-placed (inserted-last (plan-of (now (drawing .entry))) wire) (λ why. bundle-fault (now (self .entry) .line) why (wire-field wire why)) ⌝ }
+        ensures answer { λ r. ⌜ going-on r (plan-of (now (drawing .exit))) ≡ or-placed (inserted-last (plan-of (now (drawing .entry))) wire) (λ why. bundle-fault (now (self .entry) .line) why (wire-field wire why)) ⌝ }
+        ensures refused { λ r. ⌜ (isOk r ≡ false → now (drawing .exit) ≡ now (drawing .entry)) ⌝ }
     {
         match drawing.append(wire) {
             Ok(()) => Ok(()),
@@ -204,13 +207,20 @@ impl<'a> Reader<'a> {
     }
 }
 
-// Reads a whole sheet: the drawing that opening and inserts at its end make, or the sheet's first fault. An accepted sheet is what its
-// drawing writes, byte for byte.
+// Reads a whole sheet: the drawing that opening and inserts at its end make, or the sheet's first fault. Exactly the sheets that
+// drawings write are accepted.
 pub fn read_sheet(bytes: &[u8]) -> Result<Drawing, Fault>
     ensures answer { λ r. ⌜ planned r ≡ read-sheet (now (bytes .entry)) ⌝ }
-    ensures again { λ r. ⌜ made r (λ d. sheet-text (plan-of d) ≡ now (bytes .entry)) ⌝ }
+    ensures exactly { λ r. ⌜ Exactly r (now (bytes .entry)) ⌝ }
 {
     let mut reader = Reader::over(bytes);
     let drawing = reader.head()?;
     reader.body(drawing)
+}
+
+// What a run of digits says of the grid: its digits are the steps that the grid's byte allows.
+pub fn runs_are_steps() -> u8
+    ensures { λ _. ⌜ RunsAreSteps ⌝ }
+{
+    0
 }

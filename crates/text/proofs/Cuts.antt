@@ -11,7 +11,7 @@ use Rattle.std.proofs.shelf.Elements.{all-append}
 use Rattle.std.proofs.shelf.Lists.{append-nil}
 use Rattle.std.proofs.shelf.Tests.{eq-eqb, ne-eqb}
 use Rattle.std.proofs.shelf.Ways.{tells}
-use Rattle.text.specs.Cuts.{cut-first, cut-rest, cut-at, after-each, join-by}
+use Rattle.text.specs.Cuts.{cut-first, cut-rest, cut-at, led-by, join-by}
 use Rattle.text.specs.Numbers.{all-digits}
 use Rattle.text.proofs.Numbers.{spelled-numerals}
 
@@ -48,7 +48,7 @@ rest-last s (c ∷ f) w = rw (ne-eqb c s (w .0)) (rest-last s f (w .1))
 pub cut-join : (s : ℕ) (f : List ℕ) (fs : List (List ℕ)) → Without s f → All (Without s) fs → cut-at s (join-by s (f ∷ fs)) ≡ f ∷ fs
 cut-join s f [] w ws = rw (append-nil, first-last s f w, rest-last s f w)
 cut-join s f (g ∷ fs) w ws =
-    rw (first-front s f (g ++ after-each s fs) w, rest-front s f (g ++ after-each s fs) w) (ap (λ x. f ∷ x) (cut-join s g fs (ws .0) (ws .1)))
+    rw (first-front s f (g ++ led-by s fs) w, rest-front s f (g ++ led-by s fs) w) (ap (λ x. f ∷ x) (cut-join s g fs (ws .0) (ws .1)))
 
 -- ---- parts without a separator
 
@@ -57,9 +57,9 @@ pub without-append : (s : ℕ) (xs ys : List ℕ) → Without s xs → Without s
 without-append s xs ys a b = all-append (λ b. b ≡ s → ⊥) xs ys a b
 
 -- parts, each after a comma
-pub without-after : (s : ℕ) (fs : List (List ℕ)) → (44 ≡ s → ⊥) → All (Without s) fs → Without s (after-each 44 fs)
+pub without-after : (s : ℕ) (fs : List (List ℕ)) → (44 ≡ s → ⊥) → All (Without s) fs → Without s (led-by 44 fs)
 without-after s [] n a = tt
-without-after s (f ∷ fs) n a = (n, without-append s f (after-each 44 fs) (a .0) (without-after s fs n (a .1)))
+without-after s (f ∷ fs) n a = (n, without-append s f (led-by 44 fs) (a .0) (without-after s fs n (a .1)))
 
 -- digits hold no byte below 48
 pub without-digits : (s : ℕ) (ds : List ℕ) → s < 48 → all-digits ds ≡ true → Without s ds

@@ -19,15 +19,15 @@ cut-rest s (c ∷ cs) = cond (eqb c s) (cut-first s cs ∷ cut-rest s cs) (cut-r
 abbrev pub cut-at : ℕ → List ℕ → List (List ℕ)
 cut-at s bs = cut-first s bs ∷ cut-rest s bs
 
--- parts with the separator before each
-abbrev pub after-each : ℕ → List (List ℕ) → List ℕ
-after-each s [] = []
-after-each s (f ∷ fs) = s ∷ (f ++ after-each s fs)
+-- parts, each led by the separator
+abbrev pub led-by : ℕ → List (List ℕ) → List ℕ
+led-by s [] = []
+led-by s (f ∷ fs) = s ∷ (f ++ led-by s fs)
 
 -- parts with the separator between them
 abbrev pub join-by : ℕ → List (List ℕ) → List ℕ
 join-by s [] = []
-join-by s (f ∷ fs) = f ++ after-each s fs
+join-by s (f ∷ fs) = f ++ led-by s fs
 
 -- the field at the front: up to a comma, byte 10 or the end
 abbrev pub field-of : List ℕ → List ℕ

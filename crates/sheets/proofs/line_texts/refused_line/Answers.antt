@@ -1,9 +1,0 @@
-use borrow.Author.Needs.{needs}
-use mathlib.Core.List.{append-assoc}
-use Rattle.std.proofs.shelf.Lists.{append-nil}
-use Rattle.sheets.specs.Texts.{refused-text}
-use Rattle.sheets.proofs.line_texts.refused_line.Needs as need
-
-pub returns : need.returns
-unfolding refused-text
-returns c = search (needs, append-assoc, append-nil)

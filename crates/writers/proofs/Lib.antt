@@ -1,0 +1,4 @@
+pub mod Shapes
+pub mod Parts
+pub mod Empties
+pub mod Wholes

@@ -1,0 +1,9 @@
+use borrow.Author.Needs.{needs}
+use mathlib.Core.List.{append-assoc}
+use Rattle.std.proofs.shelf.Lists.{append-nil}
+use Rattle.sheets.specs.Texts.{end-text}
+use Rattle.writers.proofs.line_texts.end_line.Needs as need
+
+pub returns : need.returns
+unfolding end-text
+returns c = search (needs, append-assoc, append-nil)
