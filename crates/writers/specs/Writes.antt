@@ -11,11 +11,11 @@ use Rattle.drawing.specs.declared.refusals.Refusal.{Refusal}
 use Rattle.drawing.specs.declared.refusals.Refusal.the-variants.{NumberAboveLimit, BundleFull, TooNarrow, TextTooShort}
 use Rattle.drawing.specs.declared.words.Grid.{Grid}
 use Rattle.drawing.specs.declared.words.Wire.{Wire}
-use Rattle.drawing.specs.Plans.{Plan, over-limit, too-narrow}
-use Rattle.drawing.specs.Edits.{Reply, first-reason, unless-refused, open-reasons}
+use Rattle.drawing.specs.Plans.{over-limit, too-narrow}
+use Rattle.drawing.specs.Edits.{first-reason, unless-refused, open-reasons}
 use Rattle.text.specs.Lines.{placed}
 use Rattle.writers.specs.declared.states.Refused.{Refused}
-use Rattle.sheets.specs.Texts.{head-text, wire-text, end-text, sheet-text}
+use Rattle.sheets.specs.Texts.{head-text, wire-text, end-text}
 
 -- ---- line by line
 -- a line that does not fit a buffer of `room` bytes behind a text of `at` bytes
