@@ -10,13 +10,14 @@ use Rattle.drawing.specs.Numbers.{number-of}
 use Rattle.drawing.specs.Plans.{first-excess}
 use Rattle.sheets.specs.declared.faults.Fault.{Fault}
 use Rattle.sheets.specs.declared.faults.Layer.{Layer}
-use Rattle.sheets.specs.declared.faults.Layer.the-variants.{Field, Line, Bundle}
+use Rattle.sheets.specs.declared.faults.Layer.the-variants.{Field, Line, Bundle, Call}
 
--- the number of each layer that can refuse a sheet
+-- the number of each layer that can refuse
 abbrev pub layer-number : Layer → ℕ
 layer-number Field = 1
 layer-number Line = 2
 layer-number Bundle = 3
+layer-number Call = 4
 
 -- a field that is not the number or the run that is due
 abbrev pub field-fault : ℕ → ℕ → Fault
@@ -37,6 +38,10 @@ count-fault line = record { why = WrongEndCount; layer = Line; line = line; fiel
 -- a drawing that the line would break, at a field or, for the whole line, at 0
 abbrev pub bundle-fault : ℕ → Refusal → ℕ → Fault
 bundle-fault line why place = record { why = why; layer = Bundle; line = line; field = place }
+
+-- a refusal of a call on the drawing that was read
+abbrev pub call-fault : Refusal → Fault
+call-fault why = record { why = why; layer = Call; line = 0; field = 0 }
 
 -- the field of a head that a refusal names: 15 names the channel, the others the whole line
 abbrev pub head-field : Refusal → ℕ

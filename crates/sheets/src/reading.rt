@@ -5,7 +5,6 @@ ghost use Prim.Native.Nat.{ℕ, _+_, _≤_};
 ghost use lib.ListN.{length};
 ghost use Rattle.std.specs.Results.{isOk};
 ghost use Rattle.std.specs.Vec.{made};
-ghost use Rattle.std.specs.shelf.Text.{sameBytes};
 ghost use Rattle.drawing.specs.Shown.{plan-of, planned};
 ghost use Rattle.text.specs.Cuts.{cut-first, cut-rest, cut-at, line-count};
 ghost use Rattle.sheets.specs.Faults.{head-field, wire-field, bundle-fault};
@@ -19,19 +18,13 @@ use drawing::drawings::Drawing;
 use drawing::refusals::Refusal;
 use drawing::words::Grid;
 use drawing::words::Wire;
+use text::fields::is_word;
 
 // What a line after the head says: a wire, or the end with its count of wires.
 #[derive(Clone, Copy)]
 pub(crate) enum Body {
     AWire(Wire),
     TheEnd(u32),
-}
-
-// The same bytes.
-fn is_word(part: &[u8], word: &[u8]) -> bool
-    ensures { λ r. ⌜ r ≡ sameBytes (now (part .entry)) (now (word .entry)) ⌝ }
-{
-    part == word
 }
 
 // The field of a head that a refusal names, or 0 for the whole line.

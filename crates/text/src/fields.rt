@@ -1,6 +1,7 @@
 ghost use mathlib.Core.Path.{_≡_};
 ghost use Prim.Native.Nat.{_-_, _^_, _<_, _≤_, min};
 ghost use lib.ListN.{length, take};
+ghost use Rattle.std.specs.shelf.Text.{sameBytes};
 ghost use Rattle.text.specs.Cuts.{cut-first, line-count};
 ghost use Rattle.text.specs.Numbers.{number-in};
 ghost use Rattle.text.specs.Runs.{set-in, run-in};
@@ -85,4 +86,11 @@ pub fn fields_in_line(bytes: &[u8]) -> usize
         }
     }
     0
+}
+
+// Whether a field is this word.
+pub fn is_word(part: &[u8], word: &[u8]) -> bool
+    ensures { λ r. ⌜ r ≡ sameBytes (now (part .entry)) (now (word .entry)) ⌝ }
+{
+    part == word
 }

@@ -2,6 +2,7 @@
 ghost use mathlib.Core.Path.{_≡_};
 ghost use lib.ListN.{take};
 ghost use Rattle.drawing.specs.Shown.{plan-of};
+ghost use Rattle.text.specs.Scratch.{line-text};
 ghost use Rattle.sheets.specs.Texts.{sheet-text, refused-text};
 ghost use Rattle.writers.specs.Answers.{answer-bytes, checked-text};
 use crate::answers::Answer;
@@ -11,6 +12,7 @@ use crate::whole::write_sheet;
 use drawing::drawings::Drawing;
 use sheets::faults::Fault;
 use sheets::reading::read_sheet;
+use text::lines::Line;
 
 // How much of an input is read as a sheet.
 const READ: usize = 4096;
@@ -34,24 +36,37 @@ impl Answer {
         }
     }
 
-    // The line that names a fault.
-    pub fn refusal(fault: Fault) -> Answer
-        ensures { λ r. ⌜ answer-bytes r ≡ refused-text fault ⌝ }
+    // One line.
+    pub fn line(line: &Line) -> Answer
+        ensures { λ r. ⌜ answer-bytes r ≡ line-text (now (line .entry)) ⌝ }
     {
         let mut bytes = [0; LONGEST];
-        match refused_line(fault).add(&mut bytes, 0) {
+        match line.add(&mut bytes, 0) {
             Some(len) => Answer { bytes, len },
             None => unreachable(),
         }
     }
+
+    // The line that names a fault.
+    pub fn refusal(fault: Fault) -> Answer
+        ensures { λ r. ⌜ answer-bytes r ≡ refused-text fault ⌝ }
+    {
+        Answer::line(&refused_line(fault))
+    }
+}
+
+// What of an input is read as a sheet.
+pub fn sheet_part(input: &[u8]) -> &[u8]
+    ensures { λ r. ⌜ now r ≡ take 4096 (now (input .entry)) ⌝ }
+{
+    &input[0..input.len().min(READ)]
 }
 
 // The answer to an input whose first 4,096 bytes are read as a sheet: the sheet again, or the line that names its first fault.
 pub fn checked(input: &[u8]) -> Answer
     ensures { λ r. ⌜ answer-bytes r ≡ checked-text (take 4096 (now (input .entry))) ⌝ }
 {
-    let sheet = &input[0..input.len().min(READ)];
-    match read_sheet(sheet) {
+    match read_sheet(sheet_part(input)) {
         Ok(drawing) => Answer::sheet(&drawing),
         Err(fault) => Answer::refusal(fault),
     }

@@ -1,0 +1,13 @@
+pub mod Members
+pub mod Fronts
+pub mod Sorted
+pub mod Rows
+pub mod Allocations
+pub mod Reach
+pub mod Extending
+pub mod OneCurve
+pub mod Counts
+pub mod Ends
+pub mod Bare
+pub mod Images
+pub mod Writings

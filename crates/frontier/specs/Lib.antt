@@ -1,0 +1,10 @@
+pub mod Lists
+pub mod Points
+pub mod Curves
+pub mod States
+pub mod Stages
+pub mod Bare
+pub mod Written
+pub mod Refusals
+pub mod Always
+pub mod Cases

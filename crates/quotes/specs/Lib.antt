@@ -1,0 +1,3 @@
+pub mod Quotes
+pub mod Asked
+pub mod Answers
