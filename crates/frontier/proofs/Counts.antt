@@ -17,7 +17,7 @@ use Rattle.pricing.specs.Allocations.{Book}
 use Rattle.pricing.specs.Measures.{Measure}
 use Rattle.frontier.specs.Lists.{_∈_, Fresh, put, equals, spares, each, distinct, unbeaten, undominated}
 use Rattle.frontier.specs.States.{Kept, state-of, states, state-below, first, kept, IsKept, KeptRow}
-use Rattle.frontier.specs.Stages.{extensions, Kept-counted, Row-next}
+use Rattle.frontier.specs.Stages.{extensions, Kept-is, Kept-counted, Row-next}
 use Rattle.frontier.proofs.Members.{and-both, never-both, implies, implied, all-in, all-make, some-make, keep-in, each-in, each-make}
 use Rattle.frontier.proofs.Fronts.{Orders, distinct-in, front-in, front-make}
 use Rattle.frontier.proofs.Allocations.{drawn, states-in, states-make, next-make}
@@ -138,7 +138,11 @@ module _ {V : Type 0} (m : Measure V) {reach : ℕ → V → Type 0} (laws : Law
         (λ s i. front-is s .1 (h .exactly s .0 i)) (λ s i. h .exactly s .1 (front-is s .0 i))
 
   module _ (d : Plan) (ok : Limited-wires (d .wires)) where
-    -- the same, at each stage
+    -- the computed kept states are the kept states, at each stage
+    pub kept-is-holds : Kept-is m book d
+    kept-is-holds j = front-row (first j d) (limited-take j (d .wires) ok)
+
+    -- every list of exactly the kept states is as long, at each stage
     pub kept-counted-holds : Kept-counted m book d
     kept-counted-holds j row h = row-count (first j d) (limited-take j (d .wires) ok) row h
 

@@ -1,4 +1,4 @@
--- Whether an allocation is lawful does not hang on the wires' numbers: one value of delay and wires of noughts tell it. Assumes nothing.
+-- Whether any allocation is lawful does not hang on the wires' numbers: one value of delay and wires of noughts tell it. Assumes nothing.
 use mathlib.Core.Path.{_≡_}
 use mathlib.Core.Bool.{true}
 use mathlib.Core.Logic.{_↔_}

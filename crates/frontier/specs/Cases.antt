@@ -1,7 +1,8 @@
 -- The worked bundles, by the definitions. Assumes nothing.
 use mathlib.Core.Path.{_≡_}
 use mathlib.Core.List.{List, [], _∷_}
-use Prim.Native.Nat.{ℕ}
+use Prim.Native.Nat.{ℕ, _+_}
+use lib.ListN.{length}
 use Rattle.std.specs.declared.result.Result.the-variants.{Ok, Err}
 use Rattle.drawing.specs.declared.refusals.Refusal.the-variants.{TooNarrow, NoWires, NothingFits, TooFewStates, TooFewPoints}
 use Rattle.drawing.specs.declared.words.Edit.the-variants.{SetChannel}
@@ -22,7 +23,7 @@ use Rattle.pricing.specs.Measures.{Measure, meaning}
 use Rattle.pricing.specs.Worked.{one-wire, no-wires, two-wires, threes-barred}
 use Rattle.frontier.specs.declared.records.Point.{Point}
 use Rattle.frontier.specs.Curves.{curve}
-use Rattle.frontier.specs.States.{kept-states}
+use Rattle.frontier.specs.States.{first, states, kept-states}
 use Rattle.frontier.specs.Refusals.{solve-reply}
 
 -- a power and a delay
@@ -58,9 +59,14 @@ pub record Cases-hold : Type 0 where
   pub two-by-worst : (m : Worst) (b : OpenBook) → curve (by-worst m) (open-book b) two-wires ≡ (at 1170 78000 ∷ [])
   pub late-one : (m : LateFirst) (b : OpenBook)
       → curve (by-late-first m) (open-book b) (one-wire 8) ≡ (at 560 (late 1 76800) ∷ at 790 (late 0 66200) ∷ [])
-  pub states : (m : Total) (b : OpenBook) → kept-states (by-total m) (open-book b) (one-wire 9) ≡ 10
+  pub one-states : (m : Total) (b : OpenBook) → kept-states (by-total m) (open-book b) (one-wire 9) ≡ 10
+  pub two-states : (m : Total) (b : OpenBook) → kept-states (by-total m) (open-book b) two-wires ≡ 11
+  pub two-partial : (m : Total) (b : OpenBook)
+      → length (states (by-total m) (open-book b) (first 0 two-wires)) + length (states (by-total m) (open-book b) (first 1 two-wires))
+      + length (states (by-total m) (open-book b) two-wires) ≡ 13
   pub enough : (m : Total) (b : OpenBook) → solve-reply (by-total m) (open-book b) (one-wire 9) 10 2 98 ≡ Ok tt
   pub nine-slots : (m : Total) (b : OpenBook) → solve-reply (by-total m) (open-book b) (one-wire 9) 9 2 98 ≡ Err TooFewStates
+  pub all-short : (m : Total) (b : OpenBook) → solve-reply (by-total m) (open-book b) (one-wire 9) 9 1 0 ≡ Err TooFewStates
   pub one-point : (m : Total) (b : OpenBook) → solve-reply (by-total m) (open-book b) (one-wire 9) 10 1 98 ≡ Err TooFewPoints
   pub short-strip : (m : Total) (b : OpenBook) → solve-reply (by-total m) (open-book b) (one-wire 9) 10 2 97 ≡ Err TooFewPoints
   pub none-lawful : (m : Total) (b : OpenBook) → solve-reply (by-total m) (all-barred b) (one-wire 9) 0 0 0 ≡ Err NothingFits

@@ -75,3 +75,7 @@ module _ {V : Type 0} (m : Measure V) where
   -- a list of exactly the kept states of a stage is as long as the stage counts
   abbrev pub Kept-counted : Book → Plan → Type 0
   Kept-counted book d = (j : ℕ) (row : List (Kept V)) → KeptRow m book (first j d) row → length row ≡ length (kept m book d j)
+
+  -- the computed kept states of a stage are exactly its kept states
+  abbrev pub Kept-is : Book → Plan → Type 0
+  Kept-is book d = (j : ℕ) → KeptRow m book (first j d) (kept m book d j)

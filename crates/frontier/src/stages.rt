@@ -1,7 +1,7 @@
 //! The stages lose nothing.
 ghost use Rattle.frontier.specs.Always.{Always};
 ghost use Rattle.frontier.specs.Bare.{Bare-none};
-ghost use Rattle.frontier.specs.Stages.{Row-first, Row-next, Row-last, Row-none, Kept-counted};
+ghost use Rattle.frontier.specs.Stages.{Row-first, Row-next, Row-last, Row-none, Kept-is, Kept-counted};
 use measures::DelayMeasure;
 
 // The first spaces are the kept states of stage 0.
@@ -32,14 +32,21 @@ pub fn row_none_holds<M: DelayMeasure>() -> u8
     0
 }
 
-// A list of exactly the kept states of a stage is as long as the stage counts.
+// The computed kept states of a stage are exactly its kept states.
+pub fn kept_is_holds<M: DelayMeasure>() -> u8
+    ensures { λ _. ⌜ Always M·DelayMeasure Kept-is ⌝ }
+{
+    0
+}
+
+// A list of exactly the kept states of a stage is as long as the computed one.
 pub fn kept_counted_holds<M: DelayMeasure>() -> u8
     ensures { λ _. ⌜ Always M·DelayMeasure Kept-counted ⌝ }
 {
     0
 }
 
-// Whether an allocation is lawful does not hang on the wires' numbers.
+// Whether any allocation is lawful does not hang on the wires' numbers.
 pub fn bare_none_holds<M: DelayMeasure>() -> u8
     ensures { λ _. ⌜ Always M·DelayMeasure Bare-none ⌝ }
 {

@@ -8,7 +8,7 @@ ghost use Rattle.pricing.specs.WirePrices.{wire-delay, wire-power};
 use drawing::Wire;
 
 // The delay of a wire of a width between two spaces, in 3600ths of the unit of its coefficients.
-// Inner: the solver and price hand in wires of a drawing and steps of its grid
+// Inner: whoever prices hands in wires of a drawing and steps of its grid
 pub fn wire_delay(wire: &Wire, left: u8, width: u8, right: u8) -> u32
     requires limited { ⌜ within-limits (now wire) ≡ true ⌝ }
     requires stepped { ⌜ three-steps left width right ≡ true ⌝ }
@@ -24,7 +24,7 @@ pub fn wire_delay(wire: &Wire, left: u8, width: u8, right: u8) -> u32
 }
 
 // The power of a wire of a width between two spaces, in 60ths of the unit of its coefficients.
-// Inner: the solver and price hand in wires of a drawing and steps of its grid
+// Inner: whoever prices hands in wires of a drawing and steps of its grid
 pub fn wire_power(wire: &Wire, left: u8, width: u8, right: u8) -> u32
     requires limited { ⌜ within-limits (now wire) ≡ true ⌝ }
     requires stepped { ⌜ three-steps left width right ≡ true ⌝ }

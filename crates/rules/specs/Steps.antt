@@ -1,4 +1,4 @@
--- Steps, the whole numbers 1 to 6, and how many of them stand together.
+-- Steps, the whole numbers 1 to 6: of one number, of two and of three.
 use mathlib.Core.Bool.{Bool, _&&_}
 use Prim.Native.Nat.{ℕ}
 use lib.Dec.{leb}
