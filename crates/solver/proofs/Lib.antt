@@ -1,0 +1,13 @@
+pub mod Widths
+pub mod Six
+pub mod Stage
+pub mod NoneLawful
+pub mod FrontSteps
+pub mod Bests
+pub mod Merges
+pub mod Orders
+pub mod RowsCurve
+pub mod Trails
+pub mod Bytes
+pub mod Fills
+pub mod Shows

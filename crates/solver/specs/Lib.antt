@@ -1,0 +1,5 @@
+pub mod Least
+pub mod Front
+pub mod Strips
+pub mod Trail
+pub mod Written

@@ -1,0 +1,10 @@
+pub mod Order
+pub mod Sift
+pub mod Places
+pub mod Heads
+pub mod Leasts
+pub mod Turns
+pub mod Fill
+pub mod Courses
+pub mod Openings
+pub mod Wholes

@@ -1,0 +1,4 @@
+pub mod Table
+pub mod Stage
+pub mod Openings
+pub mod Chain
