@@ -11,4 +11,3 @@ pub mod Ends
 pub mod Bare
 pub mod Images
 pub mod Writings
-pub mod Placing

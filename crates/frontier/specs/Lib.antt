@@ -3,7 +3,6 @@ pub mod Points
 pub mod Curves
 pub mod States
 pub mod Stages
-pub mod Orders
 pub mod Bare
 pub mod Written
 pub mod Refusals

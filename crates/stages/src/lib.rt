@@ -2,7 +2,6 @@
 mod delays;
 mod merge;
 mod offers;
-mod runs;
 pub mod stages;
 mod streams;
 

@@ -6,7 +6,7 @@ use Rattle.solver.proofs.Bests.{fails, read_earlier}
 use Rattle.solver.proofs.Merges.{head_new, run_empty, run_first, run_stays, run_changes, heads_set}
 use Rattle.solver.proofs.Widths.{is_true}
 use Rattle.solver.proofs.points.next_row.Goals as goal
-use Rattle.solver.proofs.points.next_row.Goals.{then-head-end+then-best-n, then-head-end+else-best-n+then-not-is-upto, then-head-end+else-best-n+else-not-is-upto, else-head-end}
+use Rattle.solver.proofs.points.next_row.Goals.{then-head-end+then-best-n, then-head-end+else-best-n+then-not-comes-before, then-head-end+else-best-n+else-not-comes-before, else-head-end}
 
 pub first-ahead-head-requires : goal.first-ahead-head-requires
 first-ahead-head-requires g c =
@@ -35,20 +35,20 @@ loop-k-preserved g c =
         | then-head-end+then-best-n w ↦
             subst F (sym w.best-is) (run_first m laws e rows c.requires.reached o cuts c.requires.runs k six (get_or c.loop-k.heads k 0) old h first best so_far w.least-ahead-pick.result
             w.least-ahead-pick.ensures w.if-best-n.true)
-        | then-head-end+else-best-n+then-not-is-upto w ↦
+        | then-head-end+else-best-n+then-not-comes-before w ↦
             let there : best < length rows = let a = so_far.within in let b = w.if-best-n.false in omega arith in
             let pick = w.least-ahead-pick.result in
             let here : pick < length rows = let a = w.least-ahead-pick.ensures.high in omega arith in
-            let order = w.is-upto.ensures ∙ read_earlier m e rows best pick _ _ _ _ there here in
+            let order = w.comes-before.ensures ∙ read_earlier m e rows best pick _ _ _ _ there here in
             subst F (sym w.best-is) (run_changes m laws e rows c.requires.reached o cuts c.requires.runs k six (get_or c.loop-k.heads k 0) old h first best so_far w.least-ahead-pick.result
-            w.least-ahead-pick.ensures there (fails order w.if-not-is-upto.true))
-        | then-head-end+else-best-n+else-not-is-upto w ↦
+            w.least-ahead-pick.ensures there (fails order w.if-not-comes-before.true))
+        | then-head-end+else-best-n+else-not-comes-before w ↦
             let there : best < length rows = let a = so_far.within in let b = w.if-best-n.false in omega arith in
             let pick = w.least-ahead-pick.result in
             let here : pick < length rows = let a = w.least-ahead-pick.ensures.high in omega arith in
-            let order = w.is-upto.ensures ∙ read_earlier m e rows best pick _ _ _ _ there here in
+            let order = w.comes-before.ensures ∙ read_earlier m e rows best pick _ _ _ _ there here in
             subst F (sym w.best-is) (run_stays m laws e rows c.requires.reached o cuts c.requires.runs k six (get_or c.loop-k.heads k 0) old h first best so_far w.least-ahead-pick.result
-            w.least-ahead-pick.ensures there (is_true order w.if-not-is-upto.false))
+            w.least-ahead-pick.ensures there (is_true order w.if-not-comes-before.false))
         | else-head-end w ↦
             subst F (sym w.best-is) (run_empty m laws e rows c.requires.reached o cuts c.requires.runs k six (get_or c.loop-k.heads k 0) old h first best so_far w.if-head-end.false)
       ],
@@ -67,22 +67,6 @@ least-ahead-pick-requires g c =
       reached = c.requires.reached;
       tied = record { some = some; inside = runs.inside (k + 1) (omega arith); here = first.here some; sorted = λ i j a b h. runs.sorted k i j six (omega arith) b h };
     }
-
--- the row picked is a row
-in_rows : {n m k : ℕ} → k < m → m ≤ n → k < n
-in_rows a b = omega arith
-
-pub offset-bounds-rows-pick : goal.offset-bounds-rows-pick
-offset-bounds-rows-pick g c = let a = c.least-ahead-pick.ensures.high in let b = c.requires.runs.inside (c.loop-k.k + 1) (let h = c.loop-k-test.true in omega arith) in omega arith
-
-pub bounds-rows-pick : goal.bounds-rows-pick
-bounds-rows-pick g c = in_rows c.least-ahead-pick.ensures.high (c.requires.runs.inside (c.loop-k.k + 1) (let h = c.loop-k-test.true in omega arith))
-
-pub bounds-rows-pick-else-best-n : goal.bounds-rows-pick-else-best-n
-bounds-rows-pick-else-best-n g c = in_rows c.least-ahead-pick.ensures.high (c.requires.runs.inside (c.loop-k.k + 1) (let h = c.loop-k-test.true in omega arith))
-
-pub offset-bounds-rows-pick-else-best-n : goal.offset-bounds-rows-pick-else-best-n
-offset-bounds-rows-pick-else-best-n g c = let a = c.least-ahead-pick.ensures.high in let b = c.requires.runs.inside (c.loop-k.k + 1) (let h = c.loop-k-test.true in omega arith) in omega arith
 
 pub returns : goal.returns
 returns g c =

@@ -1,6 +1,0 @@
-pub mod Ends
-pub mod Backs
-pub mod Steps
-pub mod Lines
-pub mod Held
-pub mod Runs

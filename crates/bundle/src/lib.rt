@@ -1,9 +1,0 @@
-// A bundle: a drawing with its undo history.
-pub mod bundles;
-pub mod changes;
-pub mod laws;
-mod timeline;
-pub mod worked;
-
-pub use bundles::Bundle;
-pub use changes::Change;

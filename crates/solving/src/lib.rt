@@ -1,4 +1,0 @@
-//! The solve of a drawing: its power-delay curve under a rule book and a delay measure, with an allocation for each point.
-pub mod lent;
-
-pub use lent::solve;
