@@ -1,4 +1,6 @@
 // Sheets, prices, books and measures on examples, with the answers that they should get.
+#![tactic(auto)]
+
 #[cfg(test)]
 mod book_tests;
 #[cfg(test)]

@@ -21,12 +21,12 @@ sound_of d =
 pub kept : (grid : Grid) (channel : ℕ) (places : List Wire) (n : ℕ) (ws : List Wire) → length places ≡ 24 → n ≤ 24 → take n places ≡ ws
     → Sound (record { grid = grid; channel = channel; wires = ws })
     → (length places ≡ 24)
-    × ((n ≤ 24)
-    × ((bad_grid grid ≡ false)
-    × ((bad_channel channel ≡ false)
-    × ((all within_limits (take n places) ≡ true)
-    × ((too_narrow grid channel (length (take n places)) ≡ false) × Unit {0})))))
+    × (n ≤ 24)
+    × (bad_grid grid ≡ false)
+    × (bad_channel channel ≡ false)
+    × (all within_limits (take n places) ≡ true)
+    × (too_narrow grid channel (length (take n places)) ≡ false)
 kept grid channel places n ws whole within is s =
     let t : Sound (record { grid = grid; channel = channel; wires = take n places }) =
     subst (λ (z : List Wire). Sound (record { grid = grid; channel = channel; wires = z })) (sym is) s in
-    (whole, (within, (t.gridded, (t.channelled, (t.limited, (t.fitting, tt))))))
+    (whole, within, t.gridded, t.channelled, t.limited, t.fitting)

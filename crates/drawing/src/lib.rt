@@ -1,4 +1,6 @@
 // A drawing: wires side by side in a channel, on a grid of allowed widths and spaces, and the edits that keep it within its limits.
+#![tactic(auto)]
+
 pub mod drawings;
 pub mod limits;
 pub mod refusals;

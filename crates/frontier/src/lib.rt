@@ -1,6 +1,8 @@
 //! The power-delay curve of a plan: the records of points and of states, and what holds of the curve and of the states that stages keep.
 //! Each function that ends in `holds` or `hold` states a theorem by its contract, over every measure, every book and every sound plan; what it
 //! returns means nothing.
+#![tactic(auto)]
+
 pub mod curves;
 pub mod either;
 pub mod records;

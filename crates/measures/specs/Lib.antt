@@ -5,3 +5,5 @@ pub mod Limits
 pub mod Refuted
 pub mod Sums
 pub mod Values
+pub mod Carried
+pub mod Choice

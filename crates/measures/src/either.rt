@@ -1,6 +1,7 @@
 //! One of two measures.
 ghost use Rattle.std.specs.Prelude.{◌≡◌};
 ghost use Rattle.measures.specs.Either.{either_made, either_joined, either_below, either_reach, either_shown};
+ghost use Rattle.measures.specs.Choice.{either_lawful};
 ghost use Rattle.measures.specs.declared.values.EitherValue.TheVariants.{Empty};
 
 use crate::measure::DelayMeasure;
@@ -28,6 +29,8 @@ impl<P: DelayMeasure, Q: DelayMeasure> DelayMeasure for EitherMeasure<P, Q> {
     ghost reach = { either_reach P.DelayMeasure Q.DelayMeasure };
 
     const EMPTY: EitherValue<P::Value, Q::Value> = EitherValue::Empty;
+
+    ghost lawful = { either_lawful (record { empty = P.empty; made = P.made; joined = P.joined; below = P.below; reach = P.reach }) (record { empty = Q.empty; made = Q.made; joined = Q.joined; below = Q.below; reach = Q.reach }) P.lawful Q.lawful };
 
     // The one empty value: `EMPTY`, written out, since nothing is known here of a constant of a generic impl.
     fn empty_value() -> EitherValue<P::Value, Q::Value> {

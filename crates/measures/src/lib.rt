@@ -1,4 +1,6 @@
 //! Delay measures: what the delays of a bundle's wires come to, and which of two outcomes is not above the other.
+#![tactic(auto)]
+
 pub mod either;
 pub mod largest;
 pub mod lates;

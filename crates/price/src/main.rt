@@ -1,5 +1,7 @@
 // Prices an allocation of a sheet's drawing: the sheet on standard input, its width digits, its space digits and possibly `total`, `worst` or
 // `late` as arguments.
+#![tactic(auto)]
+
 use quotes::quotes::quoted;
 use std::env;
 use std::io::{Read, Write};

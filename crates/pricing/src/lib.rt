@@ -1,4 +1,6 @@
 //! What wires cost, and what an allocation costs: its used width, its power and its delay by a measure.
+#![tactic(auto)]
+
 mod allocations;
 pub mod grids;
 pub mod prices;

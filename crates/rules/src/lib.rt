@@ -1,4 +1,6 @@
 //! Rule books: which triples of left space, width and right space a wire may stand in.
+#![tactic(auto)]
+
 pub mod books;
 pub mod either;
 pub mod pairs;

@@ -1,4 +1,6 @@
 // Checks a sheet: prints it back, or the line that names its first fault.
+#![tactic(auto)]
+
 use std::io;
 use std::io::{Read, Write};
 use writers::answers::checks::checked;

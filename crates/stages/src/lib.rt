@@ -1,4 +1,6 @@
 //! The middle of a solve: the kept states of a stage from those of the stage before, and the loop over all wires.
+#![tactic(auto)]
+
 mod delays;
 mod merge;
 mod offers;

@@ -1,3 +1,5 @@
+#![tactic(auto)]
+
 mod digits;
 pub mod fields;
 pub mod lines;

@@ -13,4 +13,4 @@ no_measure none near l =
     clash (l.steady_right 2 1 1 (worst_total 3 6) (worst_total 4 4) (worst_total 4 4) (lit≤ tt) (lit≤ tt) twice_three four four refl)
 
 pub returns : goal.returns
-returns c = record { values = refl; first-joined = refl; second-joined = refl; unsteady = record { before = refl; after = refl }; refuted = no_measure }
+returns c = record { values = refl; first_joined = refl; second_joined = refl; unsteady = record { before = refl; after = refl }; refuted = no_measure }

@@ -15,8 +15,8 @@ pub loop-b-preserved : goal.loop-b-preserved
 loop-b-preserved c =
     let x = get_or c.args.part.now c.loop-b.b-index 0 in
     let e : x - 48 - 1 ≡ x - 49 = omega arith in
-    let b : c.bit-of-steps.result ≡ 2 ^ (x - 48 - 1) = c.bit-of-steps.ensures in
-    let p : c.bit-of-steps.result ≡ 2 ^ (x - 49) = rw e at b in (
+    let b : c.bit_of-steps.result ≡ 2 ^ (x - 48 - 1) = c.bit_of-steps.ensures in
+    let p : c.bit_of-steps.result ≡ 2 ^ (x - 49) = rw e at b in (
       c.loop-b.invariant.0 ∙ rising_step _ _ _ _ c.loop-b-test.true c.if-b-low.false c.if-b-last.false,
       omega (arith, set_step _ _ c.loop-b-test.true),
       omega (arith, set_more c.loop-b.steps c.loop-b.low (x - 48) c.loop-b.invariant.2 (omega arith)),

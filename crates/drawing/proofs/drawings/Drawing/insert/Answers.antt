@@ -6,11 +6,12 @@ use Rattle.drawing.proofs.Accepted.{sound_insert}
 use Rattle.drawing.proofs.Sounds.{held, sound_of, kept}
 use Rattle.drawing.proofs.drawings.Drawing.insert.Goals as goal
 
-pub invariant-of-self : goal.invariant-of-self
-invariant-of-self c =
+pub invariant_of-self : goal.invariant_of-self
+invariant_of-self c =
     let d = c.args.self.now in
     let l = held d in
-    let limit : over_limit c.args.wire ≡ false = sym (c.is-some.ensures ∙ ap is_some c.first-above-limit.ensures) ∙ c.if-is-some.false in
-    let fit : too_narrow d.grid d.channel (length (plan_of d).wires + 1) ≡ false = ap (λ n. too_narrow d.grid d.channel (n + 1)) l ∙ sym c.too_narrow.ensures ∙ c.if-too-narrow.false in
-    kept d.grid d.channel c.put-in.new.s (d.count + 1) _ (c.put-in.auto.s ∙ d.whole) (omega arith) c.put-in.ensures
-    (sound_insert (plan_of d) c.args.place c.args.wire (sound_of d) (omega arith) limit (omega arith) fit)
+    let limit : over_limit c.args.wire ≡ false = sym (c.is_some.ensures ∙ ap is_some c.first_above_limit.ensures) ∙ c.if-is_some.false in
+    let fit : too_narrow d.grid d.channel (length (plan_of d).wires + 1) ≡ false = ap (λ n. too_narrow d.grid d.channel (n + 1)) l ∙ sym c.too_narrow.ensures ∙ c.if-too_narrow.false in
+    let k = kept d.grid d.channel c.put_in.new.s (d.count + 1) _ (c.put_in.auto.s ∙ d.whole) (omega arith) c.put_in.ensures
+    (sound_insert (plan_of d) c.args.place c.args.wire (sound_of d) (omega arith) limit (omega arith) fit) in
+    record { whole = k.0; within = k.1; gridded = k.2; channelled = k.3; limited = k.4; fitting = k.5 }

@@ -5,9 +5,10 @@ use Rattle.drawing.proofs.Accepted.{sound_remove}
 use Rattle.drawing.proofs.Sounds.{held, sound_of, kept}
 use Rattle.drawing.proofs.drawings.Drawing.remove.Goals as goal
 
-pub invariant-of-self : goal.invariant-of-self
-invariant-of-self c =
+pub invariant_of-self : goal.invariant_of-self
+invariant_of-self c =
     let d = c.args.self.now in
     let l = held d in
-    kept d.grid d.channel c.take-out.new.s (d.count - 1) _ (c.take-out.auto.s ∙ d.whole) (omega (arith, d.within)) c.take-out.ensures
-    (sound_remove (plan_of d) c.args.place (sound_of d) (omega arith))
+    let k = kept d.grid d.channel c.take_out.new.s (d.count - 1) _ (c.take_out.auto.s ∙ d.whole) (omega (arith, d.within)) c.take_out.ensures
+    (sound_remove (plan_of d) c.args.place (sound_of d) (omega arith)) in
+    record { whole = k.0; within = k.1; gridded = k.2; channelled = k.3; limited = k.4; fitting = k.5 }

@@ -9,15 +9,16 @@ use Rattle.drawing.proofs.Arrays.{take_set_lt}
 use Rattle.drawing.proofs.Sounds.{held, sound_of, kept}
 use Rattle.drawing.proofs.drawings.Drawing.replace.Goals as goal
 
-pub invariant-of-self : goal.invariant-of-self
-invariant-of-self c =
+pub invariant_of-self : goal.invariant_of-self
+invariant_of-self c =
     let d = c.args.self.now in
     let l = held d in
-    let limit : over_limit c.args.wire ≡ false = sym (c.is-some.ensures ∙ ap is_some c.first-above-limit.ensures) ∙ c.if-is-some.false in
+    let limit : over_limit c.args.wire ≡ false = sym (c.is_some.ensures ∙ ap is_some c.first_above_limit.ensures) ∙ c.if-is_some.false in
     let e = take_set_lt d.wires d.count c.args.place c.args.wire (omega (arith, d.whole, d.within)) (omega arith) in
-    kept d.grid d.channel (set d.wires c.args.place c.args.wire) d.count _
+    let k = kept d.grid d.channel (set d.wires c.args.place c.args.wire) d.count _
     (length-set d.wires c.args.place c.args.wire ∙ d.whole) d.within e
-    (sound_replace (plan_of d) c.args.place c.args.wire (sound_of d) (omega arith) limit)
+    (sound_replace (plan_of d) c.args.place c.args.wire (sound_of d) (omega arith) limit) in
+    record { whole = k.0; within = k.1; gridded = k.2; channelled = k.3; limited = k.4; fitting = k.5 }
 
 pub returns : goal.returns
 returns c =

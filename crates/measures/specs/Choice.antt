@@ -12,7 +12,7 @@ use Rattle.measures.specs.declared.values.EitherValue.{EitherValue}
 use Rattle.measures.specs.declared.values.EitherValue.TheVariants.{Empty, First, Second}
 use Rattle.measures.specs.Values.{to_first, to_second, from_first, from_second}
 use Rattle.measures.specs.Either.{either_made, either_joined, either_below, either_reach}
-use Rattle.measures.proofs.Carried.{Forms, carried}
+use Rattle.measures.specs.Carried.{Forms, carried}
 
 -- a test of two parts that passes passes in both
 both_true : (a b : Bool) → a && b ≡ true → (a ≡ true) × (b ≡ true)
