@@ -6,7 +6,7 @@ use Rattle.drawing.specs.Lists.{all}
 use Rattle.drawing.specs.Plans.{Plan, within_limits}
 use Rattle.drawing.specs.Steps.{steps}
 use Rattle.measures.specs.Laws.{Laws}
-use Rattle.measures.proofs.Carried.{Forms}
+use Rattle.measures.specs.Carried.{Forms}
 use Rattle.pricing.specs.Lists.{from_left}
 use Rattle.pricing.specs.Allocations.{Laid, Allocation, Book, lay, lawful}
 use Rattle.pricing.specs.Measures.{Measure}

@@ -2,7 +2,7 @@
 use Rattle.measures.specs.declared.either.EitherMeasure.TheVariants.{First}
 use Rattle.measures.specs.declared.values.EitherValue.TheVariants.{Empty}
 use Rattle.measures.specs.Values.{to_first, from_first}
-use Rattle.measures.proofs.Choice.{first_forms}
+use Rattle.measures.specs.Choice.{first_forms}
 use Rattle.pricing.specs.Measures.{meaning}
 use Rattle.frontier.specs.Written.{either_meaning}
 use Rattle.frontier.proofs.Reach.{limited_wires}

@@ -2,7 +2,7 @@
 use Rattle.measures.specs.declared.either.EitherMeasure.TheVariants.{Second}
 use Rattle.measures.specs.declared.values.EitherValue.TheVariants.{Empty}
 use Rattle.measures.specs.Values.{to_second, from_second}
-use Rattle.measures.proofs.Choice.{second_forms}
+use Rattle.measures.specs.Choice.{second_forms}
 use Rattle.pricing.specs.Measures.{meaning}
 use Rattle.frontier.specs.Written.{either_meaning}
 use Rattle.frontier.proofs.Reach.{limited_wires}

@@ -6,13 +6,13 @@ use Rattle.pricing.specs.Allocations.{is_step_of}
 use Rattle.pricing.proofs.Lists.{passes, fails, passed}
 use Rattle.pricing.proofs.allocations.all_in_grid.Goals as goal
 
-pub returns-then-not-in-grid : goal.returns-then-not-in-grid
-returns-then-not-in-grid c =
+pub returns-then-not-in_grid : goal.returns-then-not-in_grid
+returns-then-not-in_grid c =
     let f = is_step_of c.args.byte in
     let xs = c.args.chosen.now in
     let i = c.loop-s.s-index in
     fails f (all f xs) (get_or xs i 0) (drop (i + 1) xs) (drop i xs) (drop_more xs i 0 c.loop-s-test.true) c.loop-s.invariant
-    (sym c.in_grid.ensures ∙ c.if-not-in-grid.true)
+    (sym c.in_grid.ensures ∙ c.if-not-in_grid.true)
 
 pub loop-s-preserved : goal.loop-s-preserved
 loop-s-preserved c =
@@ -20,7 +20,7 @@ loop-s-preserved c =
     let xs = c.args.chosen.now in
     let i = c.loop-s.s-index in
     passes f (all f xs) (get_or xs i 0) (drop (i + 1) xs) (drop i xs) (drop_more xs i 0 c.loop-s-test.true) c.loop-s.invariant
-    (sym c.in_grid.ensures ∙ c.if-not-in-grid.false)
+    (sym c.in_grid.ensures ∙ c.if-not-in_grid.false)
 
 pub returns : goal.returns
 returns c =

@@ -9,8 +9,8 @@ use Rattle.pricing.proofs.Lists.{taken, all_taken}
 use Rattle.pricing.proofs.Rests.{no_wire, laid_at, rest, rest_start, rest_more, rest_done}
 use Rattle.pricing.proofs.prices.delay_of.Goals as goal
 
-pub wire-delay-requires : goal.wire-delay-requires
-wire-delay-requires g c =
+pub wire_delay-requires : goal.wire_delay-requires
+wire_delay-requires g c =
     let qs = c.args.wires.now in
     let ws = c.args.widths.now in
     let ss = c.args.spaces.now in
@@ -25,7 +25,7 @@ loop-i-init g c =
     let qs = c.args.wires.now in
     let ws = c.args.widths.now in
     let ss = c.args.spaces.now in
-    ap (λ v. from_left (join_wire m) v (rest qs ws ss 0)) c.empty-value-value.ensures
+    ap (λ v. from_left (join_wire m) v (rest qs ws ss 0)) c.empty_value-value.ensures
     ∙ sym (ap (from_left (join_wire m) m.empty) (rest_start qs ws ss c.requires.wide c.requires.apart))
 
 pub loop-i-preserved : goal.loop-i-preserved

@@ -6,8 +6,8 @@ use Rattle.pricing.proofs.Accepted.{limited_at, steps_at}
 use Rattle.pricing.proofs.Rests.{rest_start, rest_more, rest_done}
 use Rattle.pricing.proofs.prices.power_of.Goals as goal
 
-pub wire-power-sum-requires : goal.wire-power-sum-requires
-wire-power-sum-requires c =
+pub wire_power-sum-requires : goal.wire_power-sum-requires
+wire_power-sum-requires c =
     let qs = c.args.wires.now in
     let ws = c.args.widths.now in
     let ss = c.args.spaces.now in
@@ -26,8 +26,8 @@ loop-i-preserved c =
     let more = ap (λ ys. total (map wire_power ys)) (rest_more c.args.wires.now c.args.widths.now c.args.spaces.now c.requires.wide c.requires.apart c.loop-i.i c.loop-i-test.true) in
     let a = c.loop-i.invariant.0 in
     let b = c.loop-i.invariant.1 in
-    let exact = c.wire-power-sum.ensures.exact in
-    let small = c.wire-power-sum.ensures.small in
+    let exact = c.wire_power-sum.ensures.exact in
+    let small = c.wire_power-sum.ensures.small in
     (omega arith, omega arith)
 
 pub returns : goal.returns

@@ -9,21 +9,21 @@ use Rattle.pricing.specs.Replies.{price_reasons}
 use Rattle.pricing.proofs.Accepted.{refused, ready_after}
 use Rattle.pricing.proofs.prices.price.Goals as goal
 
-pub returns-in-err-used : goal.returns-in-err-used
-returns-in-err-used g c =
+pub returns-in_err-used : goal.returns-in_err-used
+returns-in_err-used g c =
     let m = meaning g.M.DelayMeasure c.args.measure.now in
     let plan = plan_of c.args.drawing.now in
     let x : Allocation = record { widths = c.args.widths.now; spaces = c.args.spaces.now } in
     let reply = first_reason (price_reasons (g.B.RuleBook.admits c.args.book.now) plan x) in
-    let p = err_from_is_err_and c.from-residual.result c.from-residual.ensures.1 in
-    rw (p.1, p.2) (refused reply (used_width x) (price_of m plan.wires x) c.in-err-used.field-0.0 c.in-err-used.ensures)
+    let p = err_from_is_err_and c.from_residual.result c.from_residual.ensures.1 in
+    rw (p.1, p.2) (refused reply (used_width x) (price_of m plan.wires x) c.in_err-used.field-0.0 c.in_err-used.ensures)
 
-pub power-of-power-requires : goal.power-of-power-requires
-power-of-power-requires g c =
+pub power_of-power-requires : goal.power_of-power-requires
+power_of-power-requires g c =
     ready_after (g.B.RuleBook.admits c.args.book.now) c.args.drawing.now (record { widths = c.args.widths.now; spaces = c.args.spaces.now })
-    c.in-ok-used.used c.in-ok-used.ensures c.wires-wires.result.now c.wires-wires.ensures
+    c.in_ok-used.used c.in_ok-used.ensures c.wires-wires.result.now c.wires-wires.ensures
 
-pub delay-of-delay-requires : goal.delay-of-delay-requires
-delay-of-delay-requires g c =
+pub delay_of-delay-requires : goal.delay_of-delay-requires
+delay_of-delay-requires g c =
     ready_after (g.B.RuleBook.admits c.args.book.now) c.args.drawing.now (record { widths = c.args.widths.now; spaces = c.args.spaces.now })
-    c.in-ok-used.used c.in-ok-used.ensures c.wires-wires.result.now c.wires-wires.ensures
+    c.in_ok-used.used c.in_ok-used.ensures c.wires-wires.result.now c.wires-wires.ensures

@@ -4,23 +4,23 @@ use Rattle.pricing.specs.Allocations.{Laid}
 use Rattle.pricing.proofs.Limits.{delay_parts, delay_small, product_fits, sum_fits}
 use Rattle.pricing.proofs.wire_prices.wire_delay.Goals as goal
 
-pub overflow-mul-own-2 : goal.overflow-mul-own-2
-overflow-mul-own-2 c =
+pub overflow_mul-own-2 : goal.overflow_mul-own-2
+overflow_mul-own-2 c =
     let parts = delay_parts c.args.wire.now c.args.left c.args.width c.args.right c.requires.limited c.requires.stepped in
     omega arith
 
-pub overflow-add-result : goal.overflow-add-result
-overflow-add-result c =
+pub overflow_add-result : goal.overflow_add-result
+overflow_add-result c =
     let parts = delay_parts c.args.wire.now c.args.left c.args.width c.args.right c.requires.limited c.requires.stepped in
     omega arith
 
-pub overflow-mul-result : goal.overflow-mul-result
-overflow-mul-result c =
+pub overflow_mul-result : goal.overflow_mul-result
+overflow_mul-result c =
     let parts = delay_parts c.args.wire.now c.args.left c.args.width c.args.right c.requires.limited c.requires.stepped in
     product_fits _ _ (omega arith) (omega arith)
 
-pub overflow-add-result-2 : goal.overflow-add-result-2
-overflow-add-result-2 c =
+pub overflow_add-result-2 : goal.overflow_add-result-2
+overflow_add-result-2 c =
     let parts = delay_parts c.args.wire.now c.args.left c.args.width c.args.right c.requires.limited c.requires.stepped in
     sum_fits _ _ _ (omega arith) (omega arith) (omega arith)
 

@@ -4,8 +4,8 @@ use Rattle.pricing.specs.Allocations.{Laid}
 use Rattle.pricing.proofs.Limits.{power_parts, power_small, sum_fits}
 use Rattle.pricing.proofs.wire_prices.wire_power.Goals as goal
 
-pub overflow-add-result : goal.overflow-add-result
-overflow-add-result c =
+pub overflow_add-result : goal.overflow_add-result
+overflow_add-result c =
     let parts = power_parts c.args.wire.now c.args.left c.args.width c.args.right c.requires.limited c.requires.stepped in
     sum_fits _ _ _ (omega arith) (omega arith) (omega arith)
 

@@ -10,7 +10,7 @@ use Rattle.quotes.proofs.quotes.quoted.Goals as goal
 pub returns-in-Ok : goal.returns-in-Ok
 returns-in-Ok c =
     let h = held_of c.in-Some.request (asked (map string_bytes c.args.args.now)) c.in-Some.ensures in
-    let s : Ok (plan_of c.in-Ok.drawing) ≡ read_sheet (take 4096 c.args.input.now) = c.in-Ok.ensures.answer ∙ ap read_sheet c.sheet-part.ensures in
+    let s : Ok (plan_of c.in-Ok.drawing) ≡ read_sheet (take 4096 c.args.input.now) = c.in-Ok.ensures.answer ∙ ap read_sheet c.sheet_part.ensures in
     c.quote_by.ensures
     ∙ quoted_as_asked c.in-Some.request h.ask (plan_of c.in-Ok.drawing) (sound_of c.in-Ok.drawing).few h.by_is h.wide_is h.apart_is
     ∙ ap (answered h.ask) s
@@ -19,7 +19,7 @@ returns-in-Ok c =
 pub returns-in-Err : goal.returns-in-Err
 returns-in-Err c =
     let h = held_of c.in-Some.request (asked (map string_bytes c.args.args.now)) c.in-Some.ensures in
-    let s : Err c.in-Err.fault ≡ read_sheet (take 4096 c.args.input.now) = c.in-Err.ensures.answer ∙ ap read_sheet c.sheet-part.ensures in
+    let s : Err c.in-Err.fault ≡ read_sheet (take 4096 c.args.input.now) = c.in-Err.ensures.answer ∙ ap read_sheet c.sheet_part.ensures in
     c.refusal.ensures
     ∙ ap (answered h.ask) s
     ∙ ap (λ (q : Option Asked). answer_to q (take 4096 c.args.input.now)) (sym h.is)

@@ -6,14 +6,14 @@ use Rattle.sheets.proofs.reading.read_sheet.Goals as goal
 
 pub body-requires : goal.body-requires
 body-requires c =
-    let x = c.in-ok-drawing.ensures in
+    let x = c.in_ok-drawing.ensures in
     let l = x.line in
     omega (arith, ap length x.wireless)
 
-pub returns-in-err-drawing : goal.returns-in-err-drawing
-returns-in-err-drawing c =
-    let a : planned c.from-residual.result ≡ read_sheet c.args.bytes.now = search rules in
-    record { answer = a; exactly = exactly c.from-residual.result c.args.bytes.now a }
+pub returns-in_err-drawing : goal.returns-in_err-drawing
+returns-in_err-drawing c =
+    let a : planned c.from_residual.result ≡ read_sheet c.args.bytes.now = search rules in
+    record { answer = a; exactly = exactly c.from_residual.result c.args.bytes.now a }
 
 pub returns : goal.returns
 returns c =

@@ -13,7 +13,7 @@ use Rattle.solver.proofs.feasible.fits.Goals as goal
 
 pub loop-j-init : goal.loop-j-init
 loop-j-init g c =
-    least_first (g.B.RuleBook.admits c.args.book.now) c.grid-grid.result c.channel-channel.result c.first-row-row.result c.first-row-row.ensures
+    least_first (g.B.RuleBook.admits c.args.book.now) c.grid-grid.result c.channel-channel.result c.first_row-row.result c.first_row-row.ensures
 
 pub loop-j-preserved : goal.loop-j-preserved
 loop-j-preserved g c =
@@ -25,9 +25,9 @@ loop-j-preserved g c =
     let q = get_or qs j no_wire in
     let here : j < length qs = subst (λ (z : List Wire). j < length z) c.wires-count.ensures c.loop-j-test.true in
     let more : take (j + 1) qs ≡ take j qs ++ (q ∷ []) = rw add-one (take-suc qs j no_wire here) in
-    subst (λ (z : List Wire). Least book (drawn grid channel z) c.push-row-row.result) (sym more)
-    (least_next book grid channel (channel_small c.args.drawing.now channel c.channel-channel.ensures) (take j qs) q c.loop-j.row c.push-row-row.result
-    c.loop-j.invariant c.push-row-row.ensures)
+    subst (λ (z : List Wire). Least book (drawn grid channel z) c.push_row-row.result) (sym more)
+    (least_next book grid channel (channel_small c.args.drawing.now channel c.channel-channel.ensures) (take j qs) q c.loop-j.row c.push_row-row.result
+    c.loop-j.invariant c.push_row-row.ensures)
 
 pub returns : goal.returns
 returns g c =
@@ -38,15 +38,15 @@ returns g c =
     let channel = c.channel-channel.result in
     let row = c.loop-j.row in
     let j = c.loop-j.j in
-    let r = c.some-below.result in
+    let r = c.some_below.result in
     let past : length qs ≤ j = subst (λ (z : List Wire). length z ≤ j) c.wires-count.ensures c.loop-j-test.false in
     let every : take j qs ≡ qs = take_all j qs past in
     let whole : Least book (drawn grid channel qs) row = subst (λ (z : List Wire). Least book (drawn grid channel z) row) every c.loop-j.invariant in
     let was : Least book d row = subst (λ (z : ℕ). Least book (drawn d.grid z qs) row) c.channel-channel.ensures (subst (λ (z : Grid). Least book (drawn z channel qs) row) c.grid-grid.ensures whole) in
     let found : r ≡ true → (x : Allocation) × (lawful book d x ≡ true) =
-    λ t. let f = c.some-below.ensures.found t in least_found book d.grid d.channel qs row was f.0 f.1 f.2 in
+    λ t. let f = c.some_below.ensures.found t in least_found book d.grid d.channel qs row was f.0 f.1 f.2 in
     let each : (x : Allocation) → lawful book d x ≡ true → r ≡ true =
     λ x t.
     let small = channel_small c.args.drawing.now d.channel refl in
-    let f = least_each book d.grid d.channel small qs row was x t in c.some-below.ensures.each f.0 f.1 f.2 in
+    let f = least_each book d.grid d.channel small qs row was x t in c.some_below.ensures.each f.0 f.1 f.2 in
     record { exact = listed_exactly book d r found each; found = found; each = each }

@@ -11,18 +11,18 @@ loop-i-preserved g c =
     let row = c.args.row.now in
     let i = c.loop-i.i in
     let best = c.loop-i.best in
-    let w = c.least-width-w.result in
+    let w = c.least_width-w.result in
     let F : ℕ → Type 0 = λ z. Into book c.args.widths c.args.channel row c.args.right (i + 1) z in
     elim c.if-w-le6.branch [
       | then-w-le6+then-used-channel+then-used-best v ↦
-          subst F (sym v.best-is) (into_taken book c.args.widths c.args.channel row c.args.right i best w c.loop-i.invariant c.least-width-w.ensures c.loop-i-test.true v.if-w-le6.true
+          subst F (sym v.best-is) (into_taken book c.args.widths c.args.channel row c.args.right i best w c.loop-i.invariant c.least_width-w.ensures c.loop-i-test.true v.if-w-le6.true
           (let h = v.if-used-channel.true in omega arith) (let h = v.if-used-best.true in omega arith))
       | then-w-le6+else-used-channel v ↦
-          subst F (sym v.best-is) (into_stays book c.args.widths c.args.channel row c.args.right i best w c.loop-i.invariant c.least-width-w.ensures
+          subst F (sym v.best-is) (into_stays book c.args.widths c.args.channel row c.args.right i best w c.loop-i.invariant c.least_width-w.ensures
           (elim v.else-used-channel.branch [
             | else-used-channel-via-then-used-channel+else-used-best u ↦ inr u.if-used-best.false
             | else-used-channel-via-else-used-channel u ↦ inl u.if-used-channel.false
           ]))
       | else-w-le6 v ↦
-          subst F (sym v.best-is) (into_none book c.args.widths c.args.channel row c.args.right i best w c.loop-i.invariant c.least-width-w.ensures v.if-w-le6.false)
+          subst F (sym v.best-is) (into_none book c.args.widths c.args.channel row c.args.right i best w c.loop-i.invariant c.least_width-w.ensures v.if-w-le6.false)
     ]

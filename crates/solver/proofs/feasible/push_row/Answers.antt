@@ -4,7 +4,7 @@ use Rattle.solver.specs.Least.{Pushed}
 use Rattle.solver.proofs.Widths.{is_true, is_false}
 use Rattle.solver.proofs.Six.{pushed_set, pushed_skip}
 use Rattle.solver.proofs.feasible.push_row.Goals as goal
-use Rattle.solver.proofs.feasible.push_row.Goals.{then-in-grid, else-in-grid}
+use Rattle.solver.proofs.feasible.push_row.Goals.{then-in_grid, else-in_grid}
 
 pub loop-i-preserved : goal.loop-i-preserved
 loop-i-preserved g c =
@@ -12,10 +12,10 @@ loop-i-preserved g c =
     let row = c.args.row.now in
     let i = c.loop-i.i in
     let F : List ℕ → Type 0 = λ z. Pushed book c.args.grid c.args.channel row (i + 1) z in
-    elim c.if-in-grid.branch [
-      | then-in-grid w ↦
-          subst F (sym w.next-is) (pushed_set book c.args.grid c.args.channel row i c.loop-i.next c.loop-i-test.true c.loop-i.invariant w.least-into.result
-          (is_true c.in_grid.ensures w.if-in-grid.true) w.least-into.ensures)
-      | else-in-grid w ↦
-          subst F (sym w.next-is) (pushed_skip book c.args.grid c.args.channel row i c.loop-i.next c.loop-i-test.true c.loop-i.invariant (λ s. is_false c.in_grid.ensures w.if-in-grid.false s))
+    elim c.if-in_grid.branch [
+      | then-in_grid w ↦
+          subst F (sym w.next-is) (pushed_set book c.args.grid c.args.channel row i c.loop-i.next c.loop-i-test.true c.loop-i.invariant w.least_into.result
+          (is_true c.in_grid.ensures w.if-in_grid.true) w.least_into.ensures)
+      | else-in_grid w ↦
+          subst F (sym w.next-is) (pushed_skip book c.args.grid c.args.channel row i c.loop-i.next c.loop-i-test.true c.loop-i.invariant (λ s. is_false c.in_grid.ensures w.if-in_grid.false s))
     ]

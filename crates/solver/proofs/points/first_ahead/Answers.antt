@@ -13,6 +13,6 @@ loop-i-preserved g c =
     let rows = c.args.rows.now in
     let i = c.loop-i.i in
     let here : i < length rows = let a = c.requires.high in let b = c.loop-i-test.true in omega arith in
-    let is = c.is-ahead.ensures ∙ read_ahead m e rows c.args.after i _ here in
+    let is = c.is_ahead.ensures ∙ read_ahead m e rows c.args.after i _ here in
     λ j low lt. below_more (λ j. c.args.from ≤ j → (ahead m c.args.after (row_at e rows j).delay ≡ true) → ⊥) i (λ j lt low. c.loop-i.invariant j low lt)
-    (λ low t. never_both (ahead m c.args.after (row_at e rows i).delay) (fails is c.if-is-ahead.false) t) j lt low
+    (λ low t. never_both (ahead m c.args.after (row_at e rows i).delay) (fails is c.if-is_ahead.false) t) j lt low

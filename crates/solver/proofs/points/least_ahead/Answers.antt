@@ -7,7 +7,7 @@ use Rattle.solver.specs.Front.{blank_state, row_at, ahead, LeastAhead}
 use Rattle.solver.proofs.Widths.{is_true}
 use Rattle.solver.proofs.Bests.{reads, fails, read_ahead, read_earlier, least_start, least_stays, least_changes, least_ends}
 use Rattle.solver.proofs.points.least_ahead.Goals as goal
-use Rattle.solver.proofs.points.least_ahead.Goals.{then-is-ahead+then-not-comes-before, then-is-ahead+else-not-comes-before, else-is-ahead}
+use Rattle.solver.proofs.points.least_ahead.Goals.{then-is_ahead+then-not-comes_before, then-is_ahead+else-not-comes_before, else-is_ahead}
 
 pub loop-i-init : goal.loop-i-init
 loop-i-init g c =
@@ -31,20 +31,20 @@ loop-i-preserved g c =
     let inv = c.loop-i.invariant in
     let here : i < length rows = let a = c.requires.tied.inside in let b = c.loop-i-test.true in omega arith in
     let there : best < length rows = let a = inv.high in omega arith in
-    let is = c.is-ahead.ensures ∙ read_ahead m e rows o i _ here in
+    let is = c.is_ahead.ensures ∙ read_ahead m e rows o i _ here in
     let F : ℕ → Type 0 = λ z. LeastAhead m e rows o from (i + 1) z in
-    elim c.if-is-ahead.branch [
-      | then-is-ahead+then-not-comes-before w ↦
-          let order = w.comes-before.ensures ∙ read_earlier m e rows best i _ _ _ _ there here in
+    elim c.if-is_ahead.branch [
+      | then-is_ahead+then-not-comes_before w ↦
+          let order = w.comes_before.ensures ∙ read_earlier m e rows best i _ _ _ _ there here in
           subst F (sym w.best-is)
-          (least_changes m laws e rows c.requires.reached o from i best here inv (is_true is w.if-is-ahead.true) (fails order w.if-not-comes-before.true))
-      | then-is-ahead+else-not-comes-before w ↦
-          let order = w.comes-before.ensures ∙ read_earlier m e rows best i _ _ _ _ there here in
-          subst F (sym w.best-is) (least_stays m laws e rows c.requires.reached o from i best here inv (λ t. is_true order w.if-not-comes-before.false))
-      | else-is-ahead w ↦
+          (least_changes m laws e rows c.requires.reached o from i best here inv (is_true is w.if-is_ahead.true) (fails order w.if-not-comes_before.true))
+      | then-is_ahead+else-not-comes_before w ↦
+          let order = w.comes_before.ensures ∙ read_earlier m e rows best i _ _ _ _ there here in
+          subst F (sym w.best-is) (least_stays m laws e rows c.requires.reached o from i best here inv (λ t. is_true order w.if-not-comes_before.false))
+      | else-is_ahead w ↦
           subst F (sym w.best-is)
           (least_stays m laws e rows c.requires.reached o from i best here inv
-          (λ t. absurd (never_both (ahead m o (row_at e rows i).delay) (fails is w.if-is-ahead.false) t)))
+          (λ t. absurd (never_both (ahead m o (row_at e rows i).delay) (fails is w.if-is_ahead.false) t)))
     ]
 
 pub returns-then-rows-best : goal.returns-then-rows-best

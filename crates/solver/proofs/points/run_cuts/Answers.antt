@@ -19,8 +19,8 @@ loop-k-preserved g c =
     let rows = c.args.rows.now in
     let k = c.loop-k.k in
     let q : k ≡ (k + 1) - 1 = omega arith in (
-      cuts_set e rows c.loop-k.cuts k c.run-end-at-cut.result c.loop-k-test.true c.loop-k.invariant.0 c.run-end-at-cut.ensures,
-      subst (λ (z : ℕ). Cut e rows z c.run-end-at-cut.result) q c.run-end-at-cut.ensures,
+      cuts_set e rows c.loop-k.cuts k c.run_end-at_cut.result c.loop-k-test.true c.loop-k.invariant.0 c.run_end-at_cut.ensures,
+      subst (λ (z : ℕ). Cut e rows z c.run_end-at_cut.result) q c.run_end-at_cut.ensures,
     )
 
 pub returns : goal.returns

@@ -19,13 +19,13 @@ loop-u-preserved g c =
     let inv = c.loop-u.invariant in
     let so_far = c.loop-u.least in
     let u = c.loop-u.u in
-    let place = c.lesser-of.result in
+    let place = c.lesser_of.result in
     let r = note_more m t c.args.end c.args.used c.args.delay least so_far u place None inv.0 c.loop-u-test.true c.loop-u.auto.u
-    inv.1 inv.2 c.lesser-of.ensures in
+    inv.1 inv.2 c.lesser_of.ensures in
     (length-set so_far u place ∙ inv.0, r.0, r.1)
 
-pub lesser-of-requires : goal.lesser-of-requires
-lesser-of-requires g c =
+pub lesser_of-requires : goal.lesser_of-requires
+lesser_of-requires g c =
     let t = c.args.table.now in
     let least = c.args.least.now in
     let inv = c.loop-u.invariant in

@@ -22,17 +22,17 @@ loop-k-init g c =
     let t = c.args.table.now in
     let s = c.args.space in
     let task = c.requires.task in
-    let heads = c.open-heads-heads.result in (
+    let heads = c.open_heads-heads.result in (
       search rules,
       refl,
       task,
-      open_turn m laws admits grid channel q a b t task s heads (search rules) c.args.filled c.requires.between c.open-heads-heads.ensures,
+      open_turn m laws admits grid channel q a b t task s heads (search rules) c.args.filled c.requires.between c.open_heads-heads.ensures,
       search rules,
       leasts_start m t b c.args.filled s c.requires.between.earlier,
     )
 
-pub least-head-requires : goal.least-head-requires
-least-head-requires g c =
+pub least_head-requires : goal.least_head-requires
+least_head-requires g c =
     let m = meaning g.M.DelayMeasure c.args.measure.now in
     let laws = g.met.M.DelayMeasure.lawful c.args.measure.now in
     let admits = g.B.RuleBook.admits c.args.book.now in
@@ -51,8 +51,8 @@ least-head-requires g c =
 
 pub loop-k-smaller : goal.loop-k-smaller
 loop-k-smaller g c =
-    less_left c.loop-k.heads c.take-head.new.heads c.in-Some.k c.args.stop (omega (arith, c.in-Some.ensures.0, c.loop-k.invariant.0))
-    c.in-Some-take-head.ensures.moved
+    less_left c.loop-k.heads c.take_head.new.heads c.in-Some.k c.args.stop (omega (arith, c.in-Some.ensures.0, c.loop-k.invariant.0))
+    c.in-Some-take_head.ensures.moved
 
 pub loop-k-preserved : goal.loop-k-preserved
 loop-k-preserved g c =
@@ -65,13 +65,13 @@ loop-k-preserved g c =
     let a = c.args.begin in
     let b = c.args.stop in
     let t = c.loop-k.table in
-    let t₁ = c.take-head.new.table in
-    let done = c.in-Some-take-head.ensures in
+    let t₁ = c.take_head.new.table in
+    let done = c.in-Some-take_head.ensures in
     let turn = done.turned in (
-      c.type-inv.heads,
+      c.type_inv.heads,
       turn.front ∙ c.loop-k.invariant.1,
       task_again m laws admits grid channel q a b t t₁ c.loop-k.invariant.2 turn.front (search rules),
-      turn_again m laws admits grid channel q a b t t₁ c.args.space c.take-head.new.heads c.in-Some-take-head.e turn,
+      turn_again m laws admits grid channel q a b t t₁ c.args.space c.take_head.new.heads c.in-Some-take_head.e turn,
       done.sized,
       done.leasts,
     )
@@ -93,10 +93,10 @@ returns g c =
     let task = c.loop-k.invariant.2 in
     let turn = c.loop-k.invariant.3 in
     subst (λ z. Between m admits grid channel q z a b (s + 1) t end) c.loop-k.invariant.1
-    (close_turn m laws admits grid channel q a b t task s heads c.loop-k.invariant.0 end turn c.in-default.ensures)
+    (close_turn m laws admits grid channel q a b t task s heads c.loop-k.invariant.0 end turn c.in_default.ensures)
 
-pub returns-then-not-in-grid : goal.returns-then-not-in-grid
-returns-then-not-in-grid g c =
+pub returns-then-not-in_grid : goal.returns-then-not-in_grid
+returns-then-not-in_grid g c =
     let m = meaning g.M.DelayMeasure c.args.measure.now in
     let laws = g.met.M.DelayMeasure.lawful c.args.measure.now in
     let admits = g.B.RuleBook.admits c.args.book.now in
@@ -107,4 +107,4 @@ returns-then-not-in-grid g c =
     let b = c.args.stop in
     let s = c.args.space in
     pass_turn m laws admits grid channel q a b c.args.table.now c.requires.task s c.args.filled c.requires.between
-    (both_ways (is_step_of grid.spaces s) (sym c.if-not-in-grid.ensures))
+    (both_ways (is_step_of grid.spaces s) (sym c.if-not-in_grid.ensures))

@@ -22,7 +22,7 @@ loop-space-preserved g c =
     let a = c.args.begin in
     let b = c.args.stop in
     let t = c.loop-space.table in
-    let t₁ = c.fill-space.new.table in
+    let t₁ = c.fill_space.new.table in
     let done = c.in-Some.ensures in (
       done.front ∙ c.loop-space.invariant.0,
       task_again m laws admits grid channel q a b t t₁ c.loop-space.invariant.1 done.front (search rules),

@@ -6,8 +6,8 @@ use Rattle.stages.proofs.Leasts.{inside_of}
 use Rattle.stages.proofs.Turns.{ready, moved_on, drop_wide, drop_beaten, keep_put, full_it, beaten_by, leasts_kept}
 use Rattle.stages.proofs.merge.take_head.Goals as goal
 
-pub head-state-x-requires : goal.head-state-x-requires
-head-state-x-requires g c =
+pub head_state-x-requires : goal.head_state-x-requires
+head_state-x-requires g c =
     let m = meaning g.M.DelayMeasure c.args.measure.now in
     let laws = g.met.M.DelayMeasure.lawful c.args.measure.now in
     let admits = g.B.RuleBook.admits c.args.book.now in
@@ -24,16 +24,16 @@ head-state-x-requires g c =
     let turn = c.requires.turn in
     record { ready = ready m laws admits grid channel q t a b task s heads end turn c.requires.space.0; stream = c.requires.first.0; inside = c.requires.first.1 }
 
-pub is-behind-requires : goal.is-behind-requires
-is-behind-requires g c =
+pub is_behind-requires : goal.is_behind-requires
+is_behind-requires g c =
     let m = meaning g.M.DelayMeasure c.args.measure.now in
     let t = c.args.table.now in
-    let u = c.head-state-x.result.used in
+    let u = c.head_state-x.result.used in
     inside_of m t c.args.stop c.args.end c.args.space u (length t) c.requires.turn.high (get_or c.args.least.now u None)
     (c.requires.leasts u (omega (arith, c.if-x-channel.false, c.requires.task.narrow)))
 
-pub note-delay-requires : goal.note-delay-requires
-note-delay-requires g c =
+pub note_delay-requires : goal.note_delay-requires
+note_delay-requires g c =
     let m = meaning g.M.DelayMeasure c.args.measure.now in
     let t = c.args.table.now in
     record {
@@ -61,12 +61,12 @@ returns-then-x-channel g c =
     record {
       sized = c.requires.sized;
       leasts = c.requires.leasts;
-      turned = drop_wide m laws admits grid channel q t a b task s heads end turn c.told-heads c.requires.space.0 c.requires.space.1 c.args.k c.requires.first c.skip.result c.skip.ensures c.head-state-x.result c.head-state-x.ensures c.if-x-channel.true;
+      turned = drop_wide m laws admits grid channel q t a b task s heads end turn c.told-heads c.requires.space.0 c.requires.space.1 c.args.k c.requires.first c.skip.result c.skip.ensures c.head_state-x.result c.head_state-x.ensures c.if-x-channel.true;
       moved = moved_on m laws admits grid channel q t a b task s heads end turn c.told-heads c.requires.space.0 c.requires.space.1 c.args.k c.requires.first c.skip.result c.skip.ensures;
     }
 
-pub returns-then-is-behind : goal.returns-then-is-behind
-returns-then-is-behind g c =
+pub returns-then-is_behind : goal.returns-then-is_behind
+returns-then-is_behind g c =
     let m = meaning g.M.DelayMeasure c.args.measure.now in
     let laws = g.met.M.DelayMeasure.lawful c.args.measure.now in
     let admits = g.B.RuleBook.admits c.args.book.now in
@@ -81,11 +81,11 @@ returns-then-is-behind g c =
     let heads = c.args.heads.now in
     let end = c.args.end in
     let turn = c.requires.turn in
-    let beaten = beaten_by m laws admits grid channel q t a b task s heads end turn c.told-heads c.requires.space.0 c.requires.space.1 c.args.k c.requires.first c.skip.result c.skip.ensures c.head-state-x.result c.head-state-x.ensures c.if-x-channel.false c.args.least.now c.requires.leasts true c.if-is-behind.ensures in
+    let beaten = beaten_by m laws admits grid channel q t a b task s heads end turn c.told-heads c.requires.space.0 c.requires.space.1 c.args.k c.requires.first c.skip.result c.skip.ensures c.head_state-x.result c.head_state-x.ensures c.if-x-channel.false c.args.least.now c.requires.leasts true c.if-is_behind.ensures in
     record {
       sized = c.requires.sized;
       leasts = c.requires.leasts;
-      turned = drop_beaten m laws admits grid channel q t a b task s heads end turn c.told-heads c.requires.space.0 c.requires.space.1 c.args.k c.requires.first c.skip.result c.skip.ensures c.head-state-x.result c.head-state-x.ensures beaten;
+      turned = drop_beaten m laws admits grid channel q t a b task s heads end turn c.told-heads c.requires.space.0 c.requires.space.1 c.args.k c.requires.first c.skip.result c.skip.ensures c.head_state-x.result c.head_state-x.ensures beaten;
       moved = moved_on m laws admits grid channel q t a b task s heads end turn c.told-heads c.requires.space.0 c.requires.space.1 c.args.k c.requires.first c.skip.result c.skip.ensures;
     }
 
@@ -105,11 +105,11 @@ returns-then-end-table g c =
     let heads = c.args.heads.now in
     let end = c.args.end in
     let turn = c.requires.turn in
-    let unbeaten = beaten_by m laws admits grid channel q t a b task s heads end turn c.told-heads c.requires.space.0 c.requires.space.1 c.args.k c.requires.first c.skip.result c.skip.ensures c.head-state-x.result c.head-state-x.ensures c.if-x-channel.false c.args.least.now c.requires.leasts false c.if-is-behind.ensures in
+    let unbeaten = beaten_by m laws admits grid channel q t a b task s heads end turn c.told-heads c.requires.space.0 c.requires.space.1 c.args.k c.requires.first c.skip.result c.skip.ensures c.head_state-x.result c.head_state-x.ensures c.if-x-channel.false c.args.least.now c.requires.leasts false c.if-is_behind.ensures in
     record {
       sized = c.requires.sized;
       leasts = tt;
-      turned = full_it m laws admits grid channel q t a b task s heads end turn c.told-heads c.requires.space.0 c.requires.space.1 c.args.k c.requires.first c.skip.result c.skip.ensures c.head-state-x.result c.head-state-x.ensures c.if-x-channel.false unbeaten (omega (arith, c.if-end-table.true, turn.high));
+      turned = full_it m laws admits grid channel q t a b task s heads end turn c.told-heads c.requires.space.0 c.requires.space.1 c.args.k c.requires.first c.skip.result c.skip.ensures c.head_state-x.result c.head_state-x.ensures c.if-x-channel.false unbeaten (omega (arith, c.if-end-table.true, turn.high));
       moved = moved_on m laws admits grid channel q t a b task s heads end turn c.told-heads c.requires.space.0 c.requires.space.1 c.args.k c.requires.first c.skip.result c.skip.ensures;
     }
 
@@ -129,11 +129,11 @@ returns g c =
     let heads = c.args.heads.now in
     let end = c.args.end in
     let turn = c.requires.turn in
-    let unbeaten = beaten_by m laws admits grid channel q t a b task s heads end turn c.told-heads c.requires.space.0 c.requires.space.1 c.args.k c.requires.first c.skip.result c.skip.ensures c.head-state-x.result c.head-state-x.ensures c.if-x-channel.false c.args.least.now c.requires.leasts false c.if-is-behind.ensures in
+    let unbeaten = beaten_by m laws admits grid channel q t a b task s heads end turn c.told-heads c.requires.space.0 c.requires.space.1 c.args.k c.requires.first c.skip.result c.skip.ensures c.head_state-x.result c.head_state-x.ensures c.if-x-channel.false c.args.least.now c.requires.leasts false c.if-is_behind.ensures in
     record {
-      sized = c.note-delay.ensures.sized;
-      leasts = leasts_kept m laws admits grid channel q t a b task s heads end turn c.told-heads c.requires.space.0 c.requires.space.1 c.args.k c.requires.first c.skip.result c.skip.ensures c.head-state-x.result c.head-state-x.ensures c.if-x-channel.false c.args.least.now c.note-delay.new.least c.requires.leasts c.note-delay.ensures.noted c.put.new.table c.put.ensures c.if-end-table.false;
-      turned = keep_put m laws admits grid channel q t a b task s heads end turn c.told-heads c.requires.space.0 c.requires.space.1 c.args.k c.requires.first c.skip.result c.skip.ensures c.head-state-x.result c.head-state-x.ensures c.put.new.table c.put.ensures c.if-x-channel.false unbeaten c.if-end-table.false;
+      sized = c.note_delay.ensures.sized;
+      leasts = leasts_kept m laws admits grid channel q t a b task s heads end turn c.told-heads c.requires.space.0 c.requires.space.1 c.args.k c.requires.first c.skip.result c.skip.ensures c.head_state-x.result c.head_state-x.ensures c.if-x-channel.false c.args.least.now c.note_delay.new.least c.requires.leasts c.note_delay.ensures.noted c.put.new.table c.put.ensures c.if-end-table.false;
+      turned = keep_put m laws admits grid channel q t a b task s heads end turn c.told-heads c.requires.space.0 c.requires.space.1 c.args.k c.requires.first c.skip.result c.skip.ensures c.head_state-x.result c.head_state-x.ensures c.put.new.table c.put.ensures c.if-x-channel.false unbeaten c.if-end-table.false;
       moved = moved_on m laws admits grid channel q t a b task s heads end turn c.told-heads c.requires.space.0 c.requires.space.1 c.args.k c.requires.first c.skip.result c.skip.ensures;
     }
 

@@ -14,7 +14,7 @@ returns-in-None g c =
     let m = meaning g.M.DelayMeasure c.args.measure.now in
     let laws = g.met.M.DelayMeasure.lawful c.args.measure.now in
     let admits = g.B.RuleBook.admits c.args.book.now in
-    let room = length c.first-row.new.table in
+    let room = length c.first_row.new.table in
     let P : Grid → ℕ → Type 0 = λ g n. room < length (starts m (drawn g n [])) in
     let d = plan_of c.args.drawing.now in
     none_begin m laws admits d (sound_of c.args.drawing.now) room

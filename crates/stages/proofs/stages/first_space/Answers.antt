@@ -6,12 +6,12 @@ use Rattle.pricing.specs.Measures.{meaning}
 use Rattle.stages.proofs.Openings.{opening_pass, opening_put, opening_full}
 use Rattle.stages.proofs.stages.first_space.Goals as goal
 
-pub returns-then-not-in-grid : goal.returns-then-not-in-grid
-returns-then-not-in-grid g c =
+pub returns-then-not-in_grid : goal.returns-then-not-in_grid
+returns-then-not-in_grid g c =
     let m = meaning g.M.DelayMeasure c.args.measure.now in
     let s = c.args.space in
     opening_pass m c.args.grid c.args.channel s c.args.table.now c.args.end c.requires
-    (λ on room. both_ways (is_step_of c.args.grid.spaces s) (sym c.if-not-in-grid.ensures) on)
+    (λ on room. both_ways (is_step_of c.args.grid.spaces s) (sym c.if-not-in_grid.ensures) on)
 
 pub returns-then-space-channel : goal.returns-then-space-channel
 returns-then-space-channel g c =
@@ -23,11 +23,11 @@ pub returns-then-end-table : goal.returns-then-end-table
 returns-then-end-table g c =
     let m = meaning g.M.DelayMeasure c.args.measure.now in
     opening_full m c.args.grid c.args.channel c.args.space c.args.table.now c.args.end c.requires
-    (sym c.if-not-in-grid.ensures) (omega (arith, c.if-space-channel.false)) (omega (arith, c.if-end-table.true, c.requires.high))
+    (sym c.if-not-in_grid.ensures) (omega (arith, c.if-space-channel.false)) (omega (arith, c.if-end-table.true, c.requires.high))
 
 pub returns : goal.returns
 returns g c =
     let m = meaning g.M.DelayMeasure c.args.measure.now in
     opening_put m c.args.grid c.args.channel c.args.space c.args.table.now c.args.end c.requires
-    (sym c.if-not-in-grid.ensures) (omega (arith, c.if-space-channel.false)) c.if-end-table.false c.put.new.table
-    (c.put.ensures ∙ ap (set c.args.table.now c.args.end) c.first-state.ensures)
+    (sym c.if-not-in_grid.ensures) (omega (arith, c.if-space-channel.false)) c.if-end-table.false c.put.new.table
+    (c.put.ensures ∙ ap (set c.args.table.now c.args.end) c.first_state.ensures)

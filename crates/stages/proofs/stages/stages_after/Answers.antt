@@ -15,8 +15,8 @@ loop-j-init g c =
     let d = drawn c.args.grid c.args.channel c.args.wires.now in
     begin m laws admits d c.requires.sound c.args.table.now c.args.first c.requires.begun
 
-pub next-row-requires : goal.next-row-requires
-next-row-requires g c =
+pub next_row-requires : goal.next_row-requires
+next_row-requires g c =
     let m = meaning g.M.DelayMeasure c.args.measure.now in
     let laws = g.met.M.DelayMeasure.lawful c.args.measure.now in
     let admits = g.B.RuleBook.admits c.args.book.now in
@@ -41,7 +41,7 @@ loop-j-preserved g c =
     let b = c.loop-j.stop in
     let w = c.loop-j.invariant in
     let go = ahead m laws admits d c.requires.sound no_wire j t a b c.loop-j-test.true w.stage in
-    go_on m laws admits d c.requires.sound j (get_or c.args.wires.now j no_wire) t c.next-row.new.table a b c.in-Some.e go.wire c.loop-j-test.true w
+    go_on m laws admits d c.requires.sound j (get_or c.args.wires.now j no_wire) t c.next_row.new.table a b c.in-Some.e go.wire c.loop-j-test.true w
     (c.in-Some.ensures (at_stage d j) go)
 
 pub returns-in-None : goal.returns-in-None
@@ -56,7 +56,7 @@ returns-in-None g c =
     let b = c.loop-j.stop in
     let w = c.loop-j.invariant in
     let go = ahead m laws admits d c.requires.sound no_wire j t a b c.loop-j-test.true w.stage in
-    too_many m laws admits d c.requires.sound j (length c.next-row.new.table) b c.loop-j-test.true w.end_at (c.in-None.ensures (at_stage d j) go)
+    too_many m laws admits d c.requires.sound j (length c.next_row.new.table) b c.loop-j-test.true w.end_at (c.in-None.ensures (at_stage d j) go)
 
 pub returns : goal.returns
 returns g c =

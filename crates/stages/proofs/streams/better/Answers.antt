@@ -27,8 +27,8 @@ returns-in-None g c =
     let k = c.args.k in
     take_first m laws q t b heads s c.requires.ready k c.args.best c.requires.stream c.in-None.is c.requires.least c.if-heads-k.false
 
-pub returns-then-is-upto : goal.returns-then-is-upto
-returns-then-is-upto g c =
+pub returns-then-is_upto : goal.returns-then-is_upto
+returns-then-is_upto g c =
     let m = meaning g.M.DelayMeasure c.args.measure.now in
     let laws = g.met.M.DelayMeasure.lawful c.args.measure.now in
     let q = c.args.wire in
@@ -37,11 +37,11 @@ returns-then-is-upto g c =
     let heads = c.args.heads.now in
     let s = c.args.space in
     let k = c.args.k in
-    take_old m laws q t b heads s c.requires.ready k c.in-Some.o c.args.best c.head-state-x.result c.head-state-y.result
-    c.in-Some.is c.requires.least c.head-state-x.ensures c.head-state-y.ensures c.if-is-upto.ensures
+    take_old m laws q t b heads s c.requires.ready k c.in-Some.o c.args.best c.head_state-x.result c.head_state-y.result
+    c.in-Some.is c.requires.least c.head_state-x.ensures c.head_state-y.ensures c.if-is_upto.ensures
 
-pub returns-else-is-upto : goal.returns-else-is-upto
-returns-else-is-upto g c =
+pub returns-else-is_upto : goal.returns-else-is_upto
+returns-else-is_upto g c =
     let m = meaning g.M.DelayMeasure c.args.measure.now in
     let laws = g.met.M.DelayMeasure.lawful c.args.measure.now in
     let q = c.args.wire in
@@ -50,5 +50,5 @@ returns-else-is-upto g c =
     let heads = c.args.heads.now in
     let s = c.args.space in
     let k = c.args.k in
-    take_new m laws q t b heads s c.requires.ready k c.in-Some.o c.args.best c.head-state-x.result c.head-state-y.result
-    c.requires.stream c.in-Some.is c.requires.least c.if-heads-k.false c.head-state-x.ensures c.head-state-y.ensures c.if-is-upto.ensures
+    take_new m laws q t b heads s c.requires.ready k c.in-Some.o c.args.best c.head_state-x.result c.head_state-y.result
+    c.requires.stream c.in-Some.is c.requires.least c.if-heads-k.false c.head_state-x.ensures c.head_state-y.ensures c.if-is_upto.ensures

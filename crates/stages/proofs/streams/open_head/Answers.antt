@@ -9,6 +9,6 @@ returns-then-allows g c =
       low = s.low;
       high = s.high;
       last = s.found;
-      lawful = λ h. (sym c.if-in-grid.ensures, sym c.if-allows.ensures);
+      lawful = λ h. (sym c.if-in_grid.ensures, sym c.if-allows.ensures);
       none = λ i d l h e on book. s.passed i d l h e;
     }

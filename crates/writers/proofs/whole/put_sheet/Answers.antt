@@ -13,34 +13,34 @@ use Rattle.writers.proofs.whole.put_sheet.Goals as goal
 head_shown : (h : List ℕ) (g grid : Grid) (n channel : ℕ) → h ≡ head_text g n → g ≡ grid → n ≡ channel → h ≡ head_text grid channel
 head_shown h g grid n channel e eg en = e ∙ (ap (λ (x : Grid). head_text x n) eg ∙ ap (head_text grid) en)
 
-pub returns-in-err-head : goal.returns-in-err-head
-returns-in-err-head c =
+pub returns-in_err-head : goal.returns-in_err-head
+returns-in_err-head c =
     let p = plan_of c.args.drawing.now in
     let h = head_shown _ _ _ _ _ c.head_line.ensures c.grid.ensures c.channel.ensures in
-    let x = c.in-err-head.ensures in
+    let x = c.in_err-head.ensures in
     let l = length_three (head_text p.grid p.channel) (flat_map wire_text p.wires) (end_text (length p.wires)) in
-    rw c.from-residual.ensures (omega (arith, ap length h))
+    rw c.from_residual.ensures (omega (arith, ap length h))
 
-pub returns-in-err-body : goal.returns-in-err-body
-returns-in-err-body c =
+pub returns-in_err-body : goal.returns-in_err-body
+returns-in_err-body c =
     let p = plan_of c.args.drawing.now in
     let h = head_shown _ _ _ _ _ c.head_line.ensures c.grid.ensures c.channel.ensures in
     let j = ap (λ (ws : List Wire). length (flat_map wire_text ws)) c.wires-wires.ensures in
-    let x = c.in-ok-head.ensures in
-    let y = c.in-err-body.ensures in
+    let x = c.in_ok-head.ensures in
+    let y = c.in_err-body.ensures in
     let l = length_three (head_text p.grid p.channel) (flat_map wire_text p.wires) (end_text (length p.wires)) in
-    rw c.from-residual-in-err-body.ensures (omega (arith, ap length h))
+    rw c.from_residual-in_err-body.ensures (omega (arith, ap length h))
 
 pub returns : goal.returns
 returns c =
     let p = plan_of c.args.drawing.now in
     let h = head_shown _ _ _ _ _ c.head_line.ensures c.grid.ensures c.channel.ensures in
     let j = ap (flat_map wire_text) c.wires-wires.ensures in
-    let e = c.end-line.ensures ∙ ap (λ (ws : List Wire). end_text (length ws)) c.wires-wires.ensures in
-    let x = c.in-ok-head.ensures in
-    let y = c.in-ok-body.ensures in
-    let whole : line_text c.head_line.result ++ (flat_map wire_text c.wires-wires.result.now ++ line_text c.end-line.result) ≡ sheet_text p = rw (h, j, e) in
+    let e = c.end_line.ensures ∙ ap (λ (ws : List Wire). end_text (length ws)) c.wires-wires.ensures in
+    let x = c.in_ok-head.ensures in
+    let y = c.in_ok-body.ensures in
+    let whole : line_text c.head_line.result ++ (flat_map wire_text c.wires-wires.result.now ++ line_text c.end_line.result) ≡ sheet_text p = rw (h, j, e) in
     subst (λ (s : List ℕ). Puts c.add-2.result s 0 c.args.text.now c.add-2.new.text) whole
-    (third_put c.add-2.result c.args.text.now c.add.new.text c.put-wires.new.text c.add-2.new.text c.in-ok-head.head c.in-ok-body.body
-    (line_text c.head_line.result) (flat_map wire_text c.wires-wires.result.now) (line_text c.end-line.result)
+    (third_put c.add-2.result c.args.text.now c.add.new.text c.put_wires.new.text c.add-2.new.text c.in_ok-head.head c.in_ok-body.body
+    (line_text c.head_line.result) (flat_map wire_text c.wires-wires.result.now) (line_text c.end_line.result)
     x.2 (omega arith) y.2 y.0 (omega arith) c.add-2.ensures)

@@ -24,9 +24,9 @@ more places word i hp hw e =
 pub loop-i-preserved : goal.loop-i-preserved
 loop-i-preserved c =
     let h = c.min-len.ensures in (
-      ap (λ v. take (c.loop-i.i + 1) (set c.loop-i.places c.loop-i.i v)) c.saturating-sub.ensures
+      ap (λ v. take (c.loop-i.i + 1) (set c.loop-i.places c.loop-i.i v)) c.saturating_sub.ensures
           ∙ more c.loop-i.places c.args.word.now c.loop-i.i (omega arith) (omega arith) c.loop-i.invariant.0,
-      length-set c.loop-i.places c.loop-i.i c.saturating-sub.result ∙ c.loop-i.invariant.1,
+      length-set c.loop-i.places c.loop-i.i c.saturating_sub.result ∙ c.loop-i.invariant.1,
     )
 
 pub returns : goal.returns

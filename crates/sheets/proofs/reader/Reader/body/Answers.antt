@@ -12,31 +12,31 @@ use Rattle.sheets.specs.Walks.{rest}
 use Rattle.sheets.proofs.Steps.{one_more, wire_goes, wire_stops}
 use Rattle.sheets.proofs.reader.Reader.body.Goals as goal
 
-pub returns-in-err-take-wire : goal.returns-in-err-take-wire
-returns-in-err-take-wire c =
-    let p = err_from_is_err_and c.from-residual-in-err-take-wire.result c.from-residual-in-err-take-wire.ensures.1 in
-    let x = c.in-ok-wire.ensures in
+pub returns-in_err-take_wire-in-AWire : goal.returns-in_err-take_wire-in-AWire
+returns-in_err-take_wire-in-AWire c =
+    let p = err_from_is_err_and c.from_residual-in_err-take_wire-in-AWire.result c.from_residual-in_err-take_wire-in-AWire.ensures.1 in
+    let x = c.in_ok-wire.ensures in
     let w = c.in-AWire.wire in
     let g : Ok (AWire w) ≡ body_line c.lines.self.line (line_count (rest c.lines.self)) (cut_first 10 (rest c.lines.self)) = ap {B = Result Body Fault} (λ (b : Body). Ok b) (sym c.in-AWire.is) ∙ x.answer in
-    rw (p.1, p.2) (sym (c.lines.invariant.0 ∙ wire_stops c.lines.self.line c.body_line.new.self.line (plan_of c.lines.drawing) c.in-err-take-wire.field-0.0 (rest c.lines.self) (rest c.body_line.new.self) w
-    x.line x.stands g c.in-err-take-wire.ensures.answer))
+    rw (p.1, p.2) (sym (c.lines.invariant.0 ∙ wire_stops c.lines.self.line c.body_line.new.self.line (plan_of c.lines.drawing) c.in_err-take_wire-in-AWire.field-0.0 (rest c.lines.self) (rest c.body_line.new.self) w
+    x.line x.stands g c.in_err-take_wire-in-AWire.ensures.answer))
 
 pub lines-smaller : goal.lines-smaller
 lines-smaller c =
-    let m = one_more (plan_of c.lines.drawing) (plan_of c.take-wire.new.drawing) c.in-AWire.wire (λ why. bundle_fault c.body_line.new.self.line why (wire_field c.in-AWire.wire why)) c.in-ok-take-wire.ensures.answer in
-    let h = held c.take-wire.new.drawing in
-    let k : c.take-wire.new.drawing.count ≤ 24 = c.take-wire.new.drawing.within in
+    let m = one_more (plan_of c.lines.drawing) (plan_of c.take_wire.new.drawing) c.in-AWire.wire (λ why. bundle_fault c.body_line.new.self.line why (wire_field c.in-AWire.wire why)) c.in_ok-take_wire-in-AWire.ensures.answer in
+    let h = held c.take_wire.new.drawing in
+    let k : c.take_wire.new.drawing.count ≤ 24 = c.take_wire.new.drawing.within in
     omega arith
 
 pub lines-preserved : goal.lines-preserved
 lines-preserved c =
-    let x = c.in-ok-wire.ensures in
+    let x = c.in_ok-wire.ensures in
     let w = c.in-AWire.wire in
     let g : Ok (AWire w) ≡ body_line c.lines.self.line (line_count (rest c.lines.self)) (cut_first 10 (rest c.lines.self)) = ap {B = Result Body Fault} (λ (b : Body). Ok b) (sym c.in-AWire.is) ∙ x.answer in
-    let m = one_more (plan_of c.lines.drawing) (plan_of c.take-wire.new.drawing) w (λ why. bundle_fault c.body_line.new.self.line why (wire_field w why)) c.in-ok-take-wire.ensures.answer in
+    let m = one_more (plan_of c.lines.drawing) (plan_of c.take_wire.new.drawing) w (λ why. bundle_fault c.body_line.new.self.line why (wire_field w why)) c.in_ok-take_wire-in-AWire.ensures.answer in
     let i = c.lines.invariant.1 in
     let l = x.line in (
-      c.lines.invariant.0 ∙ wire_goes c.lines.self.line c.body_line.new.self.line (plan_of c.lines.drawing) (plan_of c.take-wire.new.drawing) (rest c.lines.self) (rest c.body_line.new.self) w
-          l x.stands g c.in-ok-take-wire.ensures.answer,
+      c.lines.invariant.0 ∙ wire_goes c.lines.self.line c.body_line.new.self.line (plan_of c.lines.drawing) (plan_of c.take_wire.new.drawing) (rest c.lines.self) (rest c.body_line.new.self) w
+          l x.stands g c.in_ok-take_wire-in-AWire.ensures.answer,
       omega arith,
     )

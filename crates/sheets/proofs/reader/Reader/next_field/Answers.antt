@@ -11,8 +11,8 @@ returns-in-Some c = search (rules, drop-drop)
 pub returns-in-None : goal.returns-in-None
 returns-in-None c = search (rules, drop-drop)
 
-pub returns-in-Some-run-in : goal.returns-in-Some-run-in
-returns-in-Some-run-in c = search (rules, drop-drop)
+pub returns-in-Some-run_in : goal.returns-in-Some-run_in
+returns-in-Some-run_in c = search (rules, drop-drop)
 
-pub returns-in-None-run-in : goal.returns-in-None-run-in
-returns-in-None-run-in c = search (rules, drop-drop)
+pub returns-in-None-run_in : goal.returns-in-None-run_in
+returns-in-None-run_in c = search (rules, drop-drop)
