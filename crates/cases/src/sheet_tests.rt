@@ -23,7 +23,12 @@ fn all_accepted(rt: &impl Abort, inputs: &[&str]) -> Result<(), Fail> {
 // Each sheet is refused with the line beside it.
 fn all_refused(rt: &impl Abort, cases: &[(&str, &str)]) -> Result<(), Fail> {
     for (input, answer) in cases {
-        answered(rt, input.as_bytes(), answer).note(input)?;
+        assert_eq!(rt;
+            checked(input.as_bytes()).text(),
+            answer.as_bytes(),
+            "{}",
+            input
+        );
     }
     Ok(())
 }

@@ -1,5 +1,5 @@
 -- The first stage and the last. Assumes nothing.
-use Rattle.std.proofs.Common.{◌≡◌, ℕ, ◌+◌, ◌≤◌, true, leb, ◌↔◌, List, [], ◌∷◌, map, length, sym, refl, ap, ◌∙◌, subst, arith, take_all}
+use Rattle.std.proofs.Common.{◌≡◌, ℕ, ◌+◌, ◌≤◌, true, leb, List, [], ◌∷◌, map, length, sym, refl, ap, ◌∙◌, subst, arith, take_all}
 use Rattle.std.proofs.lemmas.Bool.{leb-true, le-leb}
 use Rattle.drawing.specs.declared.words.Wire.{Wire}
 use Rattle.drawing.specs.Lists.{keep}
@@ -13,11 +13,11 @@ use Rattle.frontier.specs.Lists.{◌∈◌, spares, undominated}
 use Rattle.frontier.specs.Points.{point_of, at_or_below, prices}
 use Rattle.frontier.specs.Curves.{power_at, curve}
 use Rattle.frontier.specs.States.{Kept, state_of, states, state_below, first, kept, IsKept, KeptRow}
-use Rattle.frontier.specs.Stages.{point_at, start, starts, RowFirst, RowLast, RowNone}
+use Rattle.frontier.specs.Stages.{point_at, start, RowFirst, RowLast, RowNone}
 use Rattle.frontier.proofs.Members.{and_left, and_both, all_in, all_make, keep_in, keep_make, map_in, map_make, empty_of, none_in}
 use Rattle.frontier.proofs.Rows.{uncons}
 use Rattle.frontier.proofs.Sorted.{same_rising}
-use Rattle.frontier.proofs.Fronts.{Orders, front_in, front_make, front_covers}
+use Rattle.frontier.proofs.Fronts.{front_in, front_make, front_covers}
 use Rattle.frontier.proofs.Allocations.{of, drawn, among, among_in, among_make, Parts, parts, whole, states_make}
 use Rattle.frontier.proofs.Reach.{LimitedWires}
 use Rattle.frontier.proofs.Extending.{below_parts}

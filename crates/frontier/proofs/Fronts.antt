@@ -1,11 +1,11 @@
 -- What nothing else is at or below: every element has such a one at or below it, and dropping the others loses nothing.
 -- Assumes nothing.
-use Rattle.std.proofs.Common.{◌≡◌, Bool, true, not, ◌⊎◌, List, [], ◌∷◌, sym, refl, ap, ◌∙◌, subst, inl, inr}
+use Rattle.std.proofs.Common.{◌≡◌, Bool, true, not, ◌⊎◌, List, [], ◌∷◌, refl, ◌∙◌, inl, inr}
 use mathlib.Core.List.Memᴰ
 use mathlib.Core.List.{Memᴰ}
-use Rattle.drawing.specs.Lists.{all, keep}
+use Rattle.drawing.specs.Lists.{keep}
 use Rattle.pricing.specs.Lists.{some_is}
-use Rattle.frontier.specs.Lists.{put, equals, spares, distinct, unbeaten, undominated, ◌∈◌}
+use Rattle.frontier.specs.Lists.{equals, spares, distinct, unbeaten, undominated, ◌∈◌}
 use Rattle.frontier.proofs.Members.{and_left, and_right, and_both, either, implies, implied, not_implied, all_in, all_make, some_in, put_in, put_head, put_tail, keep_in, keep_make}
 
 -- a test that orders the values that are good

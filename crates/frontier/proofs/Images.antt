@@ -1,6 +1,6 @@
 -- A list whose elements are written in another form, where the tests and the numbers are those of the elements: what is kept,
 -- undominated or rising of it is that of the list, written so. Assumes nothing.
-use Rattle.std.proofs.Common.{◌≡◌, ℕ, Bool, true, false, cond, not, ◌&&◌, ◌||◌, leb, List, [], ◌∷◌, map, sym, refl, ap, ◌∙◌}
+use Rattle.std.proofs.Common.{◌≡◌, ℕ, Bool, true, false, cond, not, ◌&&◌, ◌||◌, leb, List, [], ◌∷◌, map, refl, ap, ◌∙◌}
 use mathlib.Core.List.Memᴰ
 use Rattle.drawing.specs.Lists.{all, keep}
 use Rattle.pricing.specs.Lists.{some_is}

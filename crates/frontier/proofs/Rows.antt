@@ -3,7 +3,7 @@ use Rattle.std.proofs.Common.{◌≡◌, ℕ, zero, suc, ◌+◌, Bool, true, Li
 use Rattle.drawing.specs.declared.words.Wire.{Wire}
 use Rattle.drawing.specs.Lists.{all}
 use Rattle.pricing.specs.Lists.{total, from_left}
-use Rattle.pricing.specs.Allocations.{Laid, lay}
+use Rattle.pricing.specs.Allocations.{lay}
 use Rattle.frontier.specs.States.{last_of}
 use Rattle.frontier.proofs.Members.{and_left, and_right, and_both}
 

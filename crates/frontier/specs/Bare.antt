@@ -1,5 +1,5 @@
 -- Whether any allocation is lawful does not hang on the wires' numbers: one value of delay and wires of noughts tell it. Assumes nothing.
-use Rattle.std.specs.Prelude.{◌≡◌, true, ◌↔◌, List, [], map}
+use Rattle.std.specs.Prelude.{◌≡◌, true, ◌↔◌, [], map}
 use Rattle.drawing.specs.declared.words.Wire.{Wire}
 use Rattle.drawing.specs.Plans.{Plan}
 use Rattle.pricing.specs.Allocations.{Book}

@@ -1,5 +1,5 @@
 -- The worked bundles, by the definitions. Assumes nothing.
-use Rattle.std.specs.Prelude.{◌≡◌, ℕ, ◌+◌, List, [], ◌∷◌, length, Ok, Err}
+use Rattle.std.specs.Prelude.{◌≡◌, ℕ, ◌+◌, [], ◌∷◌, length, Ok, Err}
 use Rattle.drawing.specs.declared.refusals.Refusal.TheVariants.{TooNarrow, NoWires, NothingFits, TooFewStates, TooFewPoints}
 use Rattle.drawing.specs.declared.words.Edit.TheVariants.{SetChannel}
 use Rattle.drawing.specs.Edits.{edit_reply}

@@ -1,5 +1,5 @@
 -- All allocations of a plan, and the prices of the lawful ones as points of power and delay. Assumes nothing.
-use Rattle.std.specs.Prelude.{ℕ, suc, Bool, ◌&&◌, List, map, length, nat_le}
+use Rattle.std.specs.Prelude.{suc, Bool, ◌&&◌, List, map, length, nat_le}
 use Rattle.drawing.specs.declared.words.Wire.{Wire}
 use Rattle.drawing.specs.Lists.{keep}
 use Rattle.drawing.specs.Plans.{Plan}

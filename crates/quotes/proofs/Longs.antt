@@ -1,8 +1,7 @@
 -- The first 26 steps of an argument are priced as all of them are: a drawing has at most 24 wires.
-use Rattle.std.proofs.Common.{◌≡◌, ℕ, ◌+◌, ◌<◌, ◌≤◌, Bool, true, false, cond, not, ◌&&◌, eqb, ◌⊎◌, List, [], ◌∷◌, length, take, Some, None, Ok, Err, Option, Result, sym, refl, ap, ◌∙◌, inl, inr, arith}
+use Rattle.std.proofs.Common.{◌≡◌, ℕ, ◌≤◌, false, cond, not, List, [], ◌∷◌, length, take, Some, None, Err, Option, sym, refl, ap, ◌∙◌, inl, inr, arith}
 use Rattle.std.proofs.lemmas.List.{take_all, length-take-le}
 use Rattle.std.proofs.lemmas.Bool.Decides.{nat_tests, leb_tells}
-use Rattle.drawing.specs.declared.refusals.Refusal.{Refusal}
 use Rattle.drawing.specs.declared.refusals.Refusal.TheVariants.{WrongCount, StepOutsideGrid, TripleBarred, AboveChannel}
 use Rattle.drawing.specs.Edits.{first_reason, unless_refused}
 use Rattle.drawing.specs.Plans.{Plan}
@@ -12,7 +11,6 @@ use Rattle.measures.specs.contracts.sums.TotalDelayMeasure.TheImpl as of_total
 use Rattle.measures.specs.contracts.largest.WorstDelayMeasure.TheImpl as of_worst
 use Rattle.measures.specs.contracts.lates.LateFirstDelayMeasure.TheImpl as of_late_first
 use Rattle.rules.specs.Steps.{three_steps}
-use Rattle.pricing.specs.declared.prices.Priced.{Priced}
 use Rattle.pricing.specs.Allocations.{Allocation, Book, counted, in_grid, admitted, within_channel}
 use Rattle.pricing.specs.Measures.{Measure, meaning}
 use Rattle.pricing.specs.Prices.{price_of}

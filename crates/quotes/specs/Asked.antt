@@ -1,5 +1,5 @@
 -- What the arguments of a price ask for. Assumes nothing.
-use Rattle.std.specs.Prelude.{◌≡◌, ℕ, Bool, true, false, cond, ◌&&◌, List, [], ◌∷◌, take, Some, None, Option}
+use Rattle.std.specs.Prelude.{◌≡◌, ℕ, cond, ◌&&◌, List, [], ◌∷◌, take, Some, None, Option}
 use Rattle.text.specs.Numbers.{all_digits}
 use Rattle.quotes.specs.declared.names.MeasureName.{MeasureName}
 use Rattle.quotes.specs.declared.names.MeasureName.TheVariants.{ByTotal}

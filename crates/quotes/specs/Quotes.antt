@@ -1,10 +1,9 @@
 -- What the price of an allocation of a sheet's drawing prints. Assumes nothing.
-use Rattle.std.specs.Prelude.{ℕ, ◌-◌, Bool, true, false, cond, List, [], ◌∷◌, map, Some, None, Ok, Err, codes, decimal, Option, Result}
+use Rattle.std.specs.Prelude.{ℕ, ◌-◌, cond, List, [], ◌∷◌, map, Some, None, Ok, Err, codes, decimal, Option, Result}
 use Rattle.std.specs.Str.{bytes_eq}
 use Rattle.drawing.specs.declared.refusals.Refusal.{Refusal}
 use Rattle.drawing.specs.Plans.{Plan}
 use Rattle.rules.specs.Steps.{three_steps}
-use Rattle.measures.specs.declared.measure.DelayMeasure.{Ghosts}
 use Rattle.measures.specs.declared.printable.Fields.{Fields}
 use Rattle.measures.specs.declared.printable.Fields.TheVariants.{One, Two}
 use Rattle.measures.specs.contracts.sums.TotalDelayMeasure.TheImpl as of_total
@@ -13,13 +12,10 @@ use Rattle.measures.specs.contracts.lates.LateFirstDelayMeasure.TheImpl as of_la
 use Rattle.measures.specs.declared.lates.Late.{Late}
 use Rattle.pricing.specs.declared.prices.Priced.{Priced}
 use Rattle.pricing.specs.Allocations.{Allocation}
-use Rattle.pricing.specs.Measures.{Measure, meaning}
+use Rattle.pricing.specs.Measures.{meaning}
 use Rattle.pricing.specs.Replies.{priced}
 use Rattle.text.specs.Lines.{line_of}
-use Rattle.text.specs.Numbers.{all_digits}
-use Rattle.sheets.specs.declared.faults.Fault.{Fault}
 use Rattle.sheets.specs.Faults.{call_fault}
-use Rattle.sheets.specs.Reads.{read_sheet}
 use Rattle.sheets.specs.Texts.{refused_text}
 use Rattle.quotes.specs.declared.names.MeasureName.{MeasureName}
 use Rattle.quotes.specs.declared.names.MeasureName.TheVariants.{ByTotal, ByWorst, ByLate}

@@ -1,5 +1,5 @@
 -- A line of the right word and count, as the reader's steps give it.
-use Rattle.std.proofs.Common.{◌≡◌, ℕ, suc, ◌+◌, ◌<◌, ◌≤◌, true, false, cond, not, eqb, List, [], ◌∷◌, length, Ok, Err, codes, Result, sym, refl, ap, ◌∙◌, arith}
+use Rattle.std.proofs.Common.{◌≡◌, ℕ, suc, true, false, cond, not, eqb, List, [], length, Ok, Err, codes, Result, sym, refl, ap, ◌∙◌, arith}
 use Rattle.std.specs.Str.{bytes_eq}
 use Rattle.drawing.specs.declared.words.Grid.{Grid}
 use Rattle.drawing.specs.declared.words.Wire.{Wire}
@@ -8,10 +8,9 @@ use Rattle.drawing.specs.Plans.{Plan}
 use Rattle.drawing.specs.Edits.{Reply, opened, bare, unless_refused, first_reason, open_reasons}
 use Rattle.text.specs.Cuts.{cut_first, cut_rest, cut_at, line_count, field_of, after}
 use Rattle.sheets.specs.declared.faults.Fault.{Fault}
-use Rattle.sheets.specs.declared.reading.Body.{Body}
 use Rattle.sheets.specs.declared.reading.Body.TheVariants.{AWire, TheEnd}
 use Rattle.sheets.specs.Faults.{line_fault, word_fault, bundle_fault, head_field}
-use Rattle.sheets.specs.Reads.{and_then, refuse_if, or_placed, number_at, run_at, wire_from, head_from, body_line, head_line}
+use Rattle.sheets.specs.Reads.{and_then, refuse_if, or_placed, number_at, wire_from, head_from, body_line, head_line}
 use Rattle.sheets.specs.Walks.{after_fields, number_front, run_front, wire_front, head_front}
 use Rattle.sheets.proofs.Walking.{Walk, walk, counted, wire_walk, end_walk}
 

@@ -1,5 +1,5 @@
 -- One line after another: what a sheet says once its first line is read.
-use Rattle.std.proofs.Common.{◌≡◌, ℕ, ◌+◌, ◌<◌, ◌≤◌, Bool, true, false, cond, not, eqb, List, [], ◌∷◌, length, Ok, Err, Result, sym, refl, ap, ◌∙◌, arith}
+use Rattle.std.proofs.Common.{◌≡◌, ℕ, ◌+◌, ◌<◌, Bool, true, false, cond, not, eqb, List, [], ◌∷◌, length, Ok, Err, Result, sym, refl, ap, ◌∙◌, arith}
 use Rattle.std.proofs.lemmas.List.Edits.{length-insert}
 use Rattle.std.proofs.lemmas.Bool.{eq-eqb}
 use Rattle.drawing.specs.declared.words.Wire.{Wire}
@@ -10,9 +10,9 @@ use Rattle.drawing.specs.Edits.{Reply, edit_reply, made, unless_refused}
 use Rattle.text.specs.Cuts.{cut_first, cut_rest, cut_at, closed_count, line_count}
 use Rattle.sheets.specs.declared.faults.Fault.{Fault}
 use Rattle.sheets.specs.declared.reading.Body.{Body}
-use Rattle.sheets.specs.declared.reading.Body.TheVariants.{AWire, TheEnd}
+use Rattle.sheets.specs.declared.reading.Body.TheVariants.{AWire}
 use Rattle.sheets.specs.Faults.{line_fault, word_fault, count_fault, bundle_fault, wire_field}
-use Rattle.sheets.specs.Reads.{and_then, refuse_if, or_placed, by_body, body_line, read_body, read_rest, read_lines, read_sheet, head_line, ended, nothing_left, inserted_last}
+use Rattle.sheets.specs.Reads.{and_then, refuse_if, or_placed, by_body, body_line, read_body, ended, nothing_left, inserted_last}
 
 -- a line at fault
 pub line_stops : (line : ℕ) (p : Plan) (l : List ℕ) (ms : List (List ℕ)) (f : Fault)

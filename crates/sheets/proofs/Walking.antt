@@ -1,12 +1,10 @@
 -- The reader's steps, field by field, and the fields of the line that it stands at.
-use Rattle.std.proofs.Common.{◌≡◌, ℕ, zero, suc, ◌+◌, ◌<◌, ◌≤◌, List, [], ◌∷◌, length, get_or, Ok, Err, sym, refl, ap, ◌∙◌, suc-le-suc, arith}
-use Rattle.drawing.specs.declared.words.Grid.{Grid}
-use Rattle.drawing.specs.declared.words.Wire.{Wire}
+use Rattle.std.proofs.Common.{◌≡◌, ℕ, zero, suc, ◌<◌, ◌≤◌, List, [], ◌∷◌, length, get_or, refl, ap, ◌∙◌, arith}
 use Rattle.std.proofs.lemmas.Bool.Decides.{nat_tests}
-use Rattle.text.specs.Cuts.{cut_first, cut_rest, cut_at, closed_count, line_count, field_of, after}
+use Rattle.text.specs.Cuts.{cut_first, cut_rest, cut_at, closed_count, field_of, after}
 use Rattle.text.proofs.Fronts.{field_more, field_last}
-use Rattle.sheets.specs.Reads.{wire_from, head_from, number_at}
-use Rattle.sheets.specs.Walks.{after_fields, wire_front, head_front, number_front}
+use Rattle.sheets.specs.Reads.{wire_from, number_at}
+use Rattle.sheets.specs.Walks.{after_fields, wire_front, number_front}
 
 -- a line that counts some fields has them, and its line end
 pub counted : (ms : List (List ℕ)) (n k : ℕ) → closed_count ms n ≡ k → 0 < k → (n ≡ k) × (0 < length ms)

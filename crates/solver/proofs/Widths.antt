@@ -1,7 +1,6 @@
 -- Turn by turn: the least width, and the least used width behind the first places. Assumes nothing.
 use Rattle.std.proofs.Common.{◌≡◌, ℕ, ◌+◌, ◌<◌, ◌≤◌, Bool, true, false, ◌⊎◌, List, get_or, sym, refl, ◌∙◌, subst, inl, inr, arith}
 use Rattle.std.proofs.lemmas.Bool.{both_ways, cases_lt, leb-true}
-use Rattle.rules.specs.Steps.{step}
 use Rattle.pricing.specs.Allocations.{Book}
 use Rattle.pricing.proofs.Steps.{step_from}
 use Rattle.frontier.proofs.Members.{and_left, and_right}

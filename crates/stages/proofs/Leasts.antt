@@ -4,7 +4,6 @@ use lib.ListN.{get_or-replicate}
 use Rattle.std.proofs.lemmas.List.{get_or_default}
 use Rattle.std.proofs.lemmas.Bool.{both_ways, lt-ltb, le-ltb, cases_lt}
 use Rattle.drawing.specs.Lists.{all}
-use Rattle.rules.specs.Steps.{step}
 use Rattle.measures.specs.Laws.{Laws}
 use Rattle.pricing.specs.Measures.{Measure}
 use Rattle.frontier.specs.declared.records.State.{State}

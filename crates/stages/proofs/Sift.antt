@@ -4,7 +4,6 @@ use Rattle.std.proofs.lemmas.Bool.{cases_lt, cases_eq}
 use Rattle.drawing.specs.declared.words.Grid.{Grid}
 use Rattle.drawing.specs.declared.words.Wire.{Wire}
 use Rattle.drawing.specs.Plans.{within_limits}
-use Rattle.rules.specs.Steps.{step}
 use Rattle.measures.specs.Laws.{Laws}
 use Rattle.pricing.specs.Allocations.{Book}
 use Rattle.pricing.specs.Measures.{Measure}

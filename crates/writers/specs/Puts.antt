@@ -1,5 +1,5 @@
 -- Putting a text into a buffer, and writing a sheet of no wires line by line. Assumes nothing.
-use Rattle.std.specs.Prelude.{◌≡◌, ℕ, ◌+◌, ◌<◌, ◌≤◌, Bool, cond, List, [], ◌∷◌, ◌++◌, length, is_ok, Some, None, Ok, Err, Option, Result}
+use Rattle.std.specs.Prelude.{◌≡◌, ℕ, ◌+◌, ◌<◌, ◌≤◌, Bool, cond, List, [], ◌++◌, length, is_ok, Some, None, Ok, Err, Option, Result}
 use Rattle.drawing.specs.declared.refusals.Refusal.{Refusal}
 use Rattle.drawing.specs.declared.words.Grid.{Grid}
 use Rattle.drawing.specs.Edits.{first_reason, unless_refused, bare}

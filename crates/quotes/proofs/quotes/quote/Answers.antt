@@ -1,4 +1,4 @@
-use Rattle.std.proofs.Common.{◌≡◌, [], ◌∷◌, codes, decimal, ap, ◌∙◌}
+use Rattle.std.proofs.Common.{◌∷◌, codes, decimal, ap, ◌∙◌}
 use Rattle.measures.specs.declared.printable.Fields.{Fields}
 use Rattle.text.specs.Lines.{line_of}
 use Rattle.quotes.specs.Quotes.{price_text, reply_text, value_fields}

@@ -1,4 +1,4 @@
-use Rattle.std.proofs.Common.{◌≡◌, ℕ, List, map, take, Ok, Err, string_bytes, Option, sym, ap, ◌∙◌}
+use Rattle.std.proofs.Common.{◌≡◌, map, take, Ok, Err, string_bytes, Option, sym, ap, ◌∙◌}
 use Rattle.drawing.specs.Shown.{plan_of}
 use Rattle.drawing.proofs.Sounds.{sound_of}
 use Rattle.sheets.specs.Reads.{read_sheet}

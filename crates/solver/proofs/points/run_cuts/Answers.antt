@@ -1,6 +1,5 @@
 -- One cut more.
 use Rattle.std.proofs.Common.{◌≡◌, ℕ, ◌+◌, ◌-◌, List, [], ◌∷◌, get_or, refl, subst, arith}
-use Rattle.frontier.specs.Lists.{each}
 use Rattle.solver.specs.Front.{Cut, Cuts}
 use Rattle.solver.proofs.Orders.{cuts_set, cut_none, runs_of}
 use Rattle.solver.proofs.points.run_cuts.Goals as goal

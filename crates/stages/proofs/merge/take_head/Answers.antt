@@ -1,7 +1,6 @@
 -- The offer is too wide, beaten, without room, or kept.
 use Rattle.std.proofs.Common.{true, false, length, get_or, None, arith}
 use Rattle.pricing.specs.Measures.{meaning}
-use Rattle.stages.specs.Table.{stream}
 use Rattle.stages.proofs.Leasts.{inside_of}
 use Rattle.stages.proofs.Turns.{ready, moved_on, drop_wide, drop_beaten, keep_put, full_it, beaten_by, leasts_kept}
 use Rattle.stages.proofs.merge.take_head.Goals as goal

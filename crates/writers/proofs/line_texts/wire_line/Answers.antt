@@ -1,4 +1,4 @@
-use Rattle.std.proofs.Common.{◌≡◌, ◌++◌, codes, ap, ◌∙◌}
+use Rattle.std.proofs.Common.{◌++◌, codes, ap, ◌∙◌}
 use Rattle.writers.proofs.Shapes.{wire_built}
 use Rattle.writers.proofs.line_texts.wire_line.Goals as goal
 

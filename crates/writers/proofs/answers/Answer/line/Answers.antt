@@ -1,4 +1,4 @@
-use Rattle.std.proofs.Common.{◌≤◌, length, take, replicate, ap, ◌∙◌, arith}
+use Rattle.std.proofs.Common.{◌≤◌, take, replicate, ap, ◌∙◌, arith}
 use Rattle.std.proofs.lemmas.List.{length-take}
 use Rattle.text.specs.Scratch.{line_text}
 use Rattle.text.proofs.Placed.{take_placed}
