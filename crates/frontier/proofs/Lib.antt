@@ -11,3 +11,4 @@ pub mod Ends
 pub mod Bare
 pub mod Images
 pub mod Writings
+pub mod Placing

@@ -3,6 +3,7 @@ pub mod Points
 pub mod Curves
 pub mod States
 pub mod Stages
+pub mod Orders
 pub mod Bare
 pub mod Written
 pub mod Refusals

@@ -5,12 +5,14 @@
 
 pub mod curves;
 pub mod either;
+pub mod lists;
 pub mod records;
 pub mod stages;
 pub mod worked;
 
 pub use curves::{curve_is_holds, curve_is_one_holds};
 pub use either::{either_curve_holds, first_written_holds, second_written_holds};
+pub use lists::{Record, blank_all, count_above, insert, put};
 pub use records::{Point, State};
 pub use stages::{
     bare_none_holds, kept_counted_holds, kept_is_holds, row_first_holds, row_last_holds,

@@ -1,3 +1,5 @@
+pub mod Laid
+pub mod Runs
 pub mod Table
 pub mod Stage
 pub mod Openings

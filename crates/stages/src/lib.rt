@@ -4,6 +4,7 @@
 mod delays;
 mod merge;
 mod offers;
+mod runs;
 pub mod stages;
 mod streams;
 
