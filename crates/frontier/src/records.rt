@@ -7,14 +7,14 @@ pub struct Point<V> {
     pub delay: V,
 }
 
-// A state of a stage: the place of the state that it extends, the power, the used width and the delay of a partial allocation, its last
-// space, and the width of its last wire. The fields stand from large to small, so that a table takes little memory.
+// A state of a stage: the last space, the used width, the power and the delay of a partial allocation, with the width of its last wire
+// and the place of the state that it extends.
 #[derive(Clone, Copy, Drop)]
 pub struct State<V> {
-    pub from: usize,
-    pub power: u32,
-    pub used: u32,
-    pub delay: V,
     pub last: u8,
+    pub used: u32,
+    pub power: u32,
+    pub delay: V,
     pub width: u8,
+    pub from: usize,
 }

@@ -10,9 +10,8 @@ use Rattle.frontier.specs.declared.records.Point.{Point}
 use Rattle.frontier.specs.declared.records.State.{State}
 use Rattle.frontier.specs.Lists.{put, distinct, unbeaten, place, rising}
 use Rattle.frontier.specs.Points.{at_or_below}
-use Rattle.frontier.specs.Orders.{blank_state, point_upto}
 use Rattle.frontier.proofs.Members.{and_both, either, never_both, or_left, or_right, map_in, map_make}
-use Rattle.solver.specs.Front.{row_at, point_in, points_in, InReach, Known, ahead, still_ahead, front, IsNext, LeastAhead}
+use Rattle.solver.specs.Front.{blank_state, row_at, point_in, points_in, InReach, Known, ahead, earlier, still_ahead, front, IsNext, LeastAhead}
 use Rattle.solver.proofs.FrontSteps.{placed, stands, Earlier, earlier_parts, not_below, front_none, front_step}
 
 -- what stands in a list does not hang on the default
@@ -32,20 +31,20 @@ module _ {V : Type 0} (m : Measure V) (e : V) (rows : List (State V)) where
 
   -- two rows read at any defaults
   pub read_earlier : (i j : ℕ) (x y z u : State V) → i < length rows → j < length rows →
-      point_upto m (record { power = (get_or rows i x).power; delay = (get_or rows i y).delay }) (record { power = (get_or rows j z).power; delay = (get_or rows j u).delay }) ≡ point_upto m (point_in (row_at e rows i)) (point_in (row_at e rows j))
+      earlier m (record { power = (get_or rows i x).power; delay = (get_or rows i y).delay }) (record { power = (get_or rows j z).power; delay = (get_or rows j u).delay }) ≡ earlier m (point_in (row_at e rows i)) (point_in (row_at e rows j))
   read_earlier i j x y z u h k =
       let a = reads rows i x (blank_state e) h in
       let b = reads rows i y (blank_state e) h in
       let c = reads rows j z (blank_state e) k in
       let d = reads rows j u (blank_state e) k in
-      λ t. point_upto m (record { power = (a t).power; delay = (b t).delay }) (record { power = (c t).power; delay = (d t).delay })
+      λ t. earlier m (record { power = (a t).power; delay = (b t).delay }) (record { power = (c t).power; delay = (d t).delay })
 
 module _ {V : Type 0} (m : Measure V) where
   -- the test passes where the facts hold
-  earlier_make : (p q : Point V) → Earlier m p q → point_upto m p q ≡ true
+  earlier_make : (p q : Point V) → Earlier m p q → earlier m p q ≡ true
   earlier_make p q b = go (either (ltb p.power q.power))
     where
-      go : (ltb p.power q.power ≡ true) ⊎ (not (ltb p.power q.power) ≡ true) → point_upto m p q ≡ true
+      go : (ltb p.power q.power ≡ true) ⊎ (not (ltb p.power q.power) ≡ true) → earlier m p q ≡ true
       go (inl t) = or_left (ltb p.power q.power) (eqb p.power q.power && m.below p.delay q.delay) t
       go (inr t) =
           let low = not_below p.power q.power t in
@@ -55,11 +54,11 @@ module _ {V : Type 0} (m : Measure V) where
 
 module _ {V : Type 0} (m : Measure V) {reach : ℕ → V → Type 0} (laws : Laws m.empty m.made m.joined m.below reach) (k : ℕ) (few : k ≤ 24) where
   -- nothing is later than itself
-  earlier_same : (p : Point V) → reach k p.delay → point_upto m p p ≡ true
+  earlier_same : (p : Point V) → reach k p.delay → earlier m p p ≡ true
   earlier_same p g = earlier_make m p p (record { power = omega arith; delay = λ e. laws.reflexive k p.delay few g })
 
   -- from one to the next to the third
-  pub earlier_through : (p q r : Point V) → reach k p.delay → reach k q.delay → reach k r.delay → point_upto m p q ≡ true → point_upto m q r ≡ true → point_upto m p r ≡ true
+  pub earlier_through : (p q r : Point V) → reach k p.delay → reach k q.delay → reach k r.delay → earlier m p q ≡ true → earlier m q r ≡ true → earlier m p r ≡ true
   earlier_through p q r gp gq gr s t =
       let a = earlier_parts m p q s in
       let b = earlier_parts m q r t in
@@ -72,16 +71,16 @@ module _ {V : Type 0} (m : Measure V) {reach : ℕ → V → Type 0} (laws : Law
       })
 
   -- what is not before comes after
-  pub earlier_turned : (p q : Point V) → reach k p.delay → reach k q.delay → not (point_upto m p q) ≡ true → point_upto m q p ≡ true
+  pub earlier_turned : (p q : Point V) → reach k p.delay → reach k q.delay → not (earlier m p q) ≡ true → earlier m q p ≡ true
   earlier_turned p q gp gq t = earlier_make m q p (record { power = low (either (ltb p.power q.power)); delay = λ e. lower e (laws.entire k k q.delay p.delay few few gq gp) })
     where
       low : (ltb p.power q.power ≡ true) ⊎ (not (ltb p.power q.power) ≡ true) → q.power ≤ p.power
-      low (inl s) = absurd (never_both (point_upto m p q) t (or_left (ltb p.power q.power) (eqb p.power q.power && m.below p.delay q.delay) s))
+      low (inl s) = absurd (never_both (earlier m p q) t (or_left (ltb p.power q.power) (eqb p.power q.power && m.below p.delay q.delay) s))
       low (inr s) = not_below p.power q.power s
 
       lower : q.power ≡ p.power → (m.below q.delay p.delay ≡ true) ⊎ (m.below p.delay q.delay ≡ true) → m.below q.delay p.delay ≡ true
       lower e (inl h) = h
-      lower e (inr h) = absurd (never_both (point_upto m p q) t (earlier_make m p q (record { power = omega arith; delay = λ f. h })))
+      lower e (inr h) = absurd (never_both (earlier m p q) t (earlier_make m p q (record { power = omega arith; delay = λ f. h })))
 
 module _ {V : Type 0} (m : Measure V) {reach : ℕ → V → Type 0} (laws : Laws m.empty m.made m.joined m.below reach) (e : V) (rows : List (State V)) (fine : InReach reach (points_in rows)) (o : Option V) where
   -- a row is in reach
@@ -96,25 +95,25 @@ module _ {V : Type 0} (m : Measure V) {reach : ℕ → V → Type 0} (laws : Law
     taken = t;
     least = λ i a b s.
         let same : from ≡ i = omega arith in
-        subst (λ (z : ℕ). point_upto m (point_in (row_at e rows from)) (point_in (row_at e rows z)) ≡ true) same
+        subst (λ (z : ℕ). earlier m (point_in (row_at e rows from)) (point_in (row_at e rows z)) ≡ true) same
         (earlier_same m laws fine.0 fine.1 (point_in (row_at e rows from)) (good from h));
   }
 
   module _ (from i best : ℕ) (here : i < length rows) (b : LeastAhead m e rows o from i best) where
     -- one row more that the least is before, or that is not ahead
-    pub least_stays : (ahead m o (row_at e rows i).delay ≡ true → point_upto m (point_in (row_at e rows best)) (point_in (row_at e rows i)) ≡ true) →
+    pub least_stays : (ahead m o (row_at e rows i).delay ≡ true → earlier m (point_in (row_at e rows best)) (point_in (row_at e rows i)) ≡ true) →
         LeastAhead m e rows o from (i + 1) best
     least_stays t = record {
       low = b.low;
       high = let x = b.high in omega arith;
       taken = b.taken;
       least = λ j low lt s.
-          below_more (λ j. from ≤ j → ahead m o (row_at e rows j).delay ≡ true → point_upto m (point_in (row_at e rows best)) (point_in (row_at e rows j)) ≡ true) i
+          below_more (λ j. from ≤ j → ahead m o (row_at e rows j).delay ≡ true → earlier m (point_in (row_at e rows best)) (point_in (row_at e rows j)) ≡ true) i
           (λ j lt low s. b.least j low lt s) (λ low s. t s) j lt low s;
     }
 
     -- one row more that is before the least
-    pub least_changes : ahead m o (row_at e rows i).delay ≡ true → not (point_upto m (point_in (row_at e rows best)) (point_in (row_at e rows i))) ≡ true →
+    pub least_changes : ahead m o (row_at e rows i).delay ≡ true → not (earlier m (point_in (row_at e rows best)) (point_in (row_at e rows i))) ≡ true →
         LeastAhead m e rows o from (i + 1) i
     least_changes f t =
         let there : best < length rows = let x = b.high in omega arith in
@@ -123,7 +122,7 @@ module _ {V : Type 0} (m : Measure V) {reach : ℕ → V → Type 0} (laws : Law
           high = omega arith;
           taken = f;
           least = λ j low lt s.
-              below_more (λ j. from ≤ j → ahead m o (row_at e rows j).delay ≡ true → point_upto m (point_in (row_at e rows i)) (point_in (row_at e rows j)) ≡ true) i
+              below_more (λ j. from ≤ j → ahead m o (row_at e rows j).delay ≡ true → earlier m (point_in (row_at e rows i)) (point_in (row_at e rows j)) ≡ true) i
               (λ j lt low s.
               earlier_through m laws fine.0 fine.1 (point_in (row_at e rows i)) (point_in (row_at e rows best)) (point_in (row_at e rows j)) (good i here) (good best there) (good j (omega arith))
               (earlier_turned m laws fine.0 fine.1 (point_in (row_at e rows best)) (point_in (row_at e rows i)) (good best there) (good i here) t) (b.least j low lt s))
@@ -141,7 +140,7 @@ module _ {V : Type 0} (m : Measure V) {reach : ℕ → V → Type 0} (laws : Law
     }
       where
         go : (j : ℕ) → from ≤ j → j < to → ahead m o (row_at e rows j).delay ≡ true → (j < i) ⊎ (i ≤ j) →
-            point_upto m (point_in (row_at e rows best)) (point_in (row_at e rows j)) ≡ true
+            earlier m (point_in (row_at e rows best)) (point_in (row_at e rows j)) ≡ true
         go j low lt s (inl k) = b.least j low k s
         go j low lt s (inr k) =
             let rest = up j k lt in
@@ -162,7 +161,7 @@ module _ {V : Type 0} (m : Measure V) {reach : ℕ → V → Type 0} (laws : Law
         let a = map_in point_in rows i in
         let x = placed (blank_state e) a.1 in
         let q : p ≡ point_in (row_at e rows x.0) = a.2 ∙ ap point_in x.2 in
-        subst (λ (z : Point V). (point_upto m (point_in (row_at e rows r)) z ≡ true)) (sym q) (b.least h x.0 x.1 (subst (λ (z : Point V). (ahead m o z.delay ≡ true)) q t)))
+        subst (λ (z : Point V). (earlier m (point_in (row_at e rows r)) z ≡ true)) (sym q) (b.least h x.0 x.1 (subst (λ (z : Point V). (ahead m o z.delay ≡ true)) q t)))
 
     -- its delay is a row's
     pub next_known : r < length rows → Known (points_in rows) (Some (row_at e rows r).delay)

@@ -1,25 +1,17 @@
 -- One point more, with its witness. Assumes nothing.
-use Rattle.std.proofs.Common.{◌≡◌, ℕ, zero, suc, ◌+◌, ◌-◌, ◌*◌, ◌<◌, ◌≤◌, ltb, List, [], ◌∷◌, ◌++◌, length, get_or, take, drop, set, replicate, Some, None, Option, sym, refl, ap, ◌∙◌, subst, le_of_suc-le-suc, not-suc-le-zero, add-one, arith, length-append, length-take, take-suc, drop-drop, below_more}
+use Rattle.std.proofs.Common.{◌≡◌, ℕ, zero, suc, ◌+◌, ◌-◌, ◌*◌, ◌<◌, ◌≤◌, List, [], ◌∷◌, ◌++◌, length, get_or, take, drop, set, replicate, Some, None, Option, sym, refl, ap, ◌∙◌, le_of_suc-le-suc, not-suc-le-zero, add-one, arith, length-append, length-drop, length-take, get_or-drop, take-suc, drop-drop, below_more}
 use borrow.Rule.Slice.PartMut.{put_mid}
 use lib.ListN.{length-replicate}
-use Rattle.std.specs.List.{between}
-use Rattle.std.proofs.lemmas.List.Edits.{length-between, get_or-between}
-use Rattle.std.proofs.lemmas.List.{drop-replicate, get_or_append_left, get_or-take}
-use Rattle.std.proofs.lemmas.Bool.{lt-ltb}
+use Rattle.std.proofs.lemmas.List.{drop-replicate}
 use Rattle.std.proofs.lemmas.Slice.{between_is, take-put_mid_below, drop-put_mid, between-put_mid}
 use Rattle.measures.specs.Laws.{Laws}
 use Rattle.pricing.specs.Measures.{Measure}
 use Rattle.frontier.specs.declared.records.Point.{Point}
 use Rattle.frontier.specs.declared.records.State.{State}
-use Rattle.frontier.specs.Lists.{Rising}
-use Rattle.frontier.specs.Orders.{blank_point, blank_state, point_upto, put_in_order}
-use Rattle.frontier.proofs.Members.{or_left}
-use Rattle.frontier.proofs.Placing.{put_in_order_last}
-use Rattle.solver.specs.Front.{row_at, point_in, points_in, InReach, Known, front, IsNext}
+use Rattle.solver.specs.Front.{blank_state, row_at, point_in, points_in, InReach, Known, front, IsNext}
 use Rattle.solver.specs.Strips.{row_bytes}
 use Rattle.solver.specs.Trail.{widths_to, spaces_to, path_to}
-use Rattle.solver.specs.Written.{HasWitness, Filled, Partly}
-use Rattle.solver.proofs.FrontSteps.{stands}
+use Rattle.solver.specs.Written.{blank_point, HasWitness, Filled, Partly}
 use Rattle.solver.proofs.Bests.{reads, next_none, next_point, next_known}
 use Rattle.solver.proofs.Bytes.{padded, widths_length, spaces_length}
 
@@ -41,9 +33,19 @@ push_blank : {A : Type 0} (b : A) (xs : List A) (k : ℕ) (x : A) → set (xs ++
 push_blank b [] k x = refl
 push_blank b (y ∷ ys) k x = ap (λ zs. y ∷ zs) (push_blank b ys k x)
 
-module _ {V : Type 0} (e : V) (table : List (State V)) (first last wires : ℕ) (F : List (Point V)) (slots room : ℕ) where
+-- one place more is blanked
+blank_suc : {A : Type 0} (b : A) (i : ℕ) (xs : List A) → i < length xs → set (replicate i b ++ drop i xs) i b ≡ replicate (suc i) b ++ drop (suc i) xs
+blank_suc b i [] h = absurd (not-suc-le-zero h)
+blank_suc b zero (x ∷ xs) h = refl
+blank_suc b (suc i) (x ∷ xs) h = ap (λ zs. b ∷ zs) (blank_suc b i xs (le_of_suc-le-suc h))
+
+-- and with the place counted as code does
+pub blank_more : {A : Type 0} (b : A) (i : ℕ) (xs : List A) → i < length xs → set (replicate i b ++ drop i xs) i b ≡ replicate (i + 1) b ++ drop (i + 1) xs
+blank_more b i xs h = rw add-one (blank_suc b i xs h)
+
+module _ {V : Type 0} (e : V) (table : List (State V)) (first wires : ℕ) (F : List (Point V)) (slots room : ℕ) where
   -- nothing is written
-  pub fill_start : Filled e table first last wires F 0 slots room (replicate slots (blank_point e)) (replicate room 0)
+  pub fill_start : Filled e table first wires F 0 slots room (replicate slots (blank_point e)) (replicate room 0)
   fill_start = record {
     within = omega arith;
     on_curve = let q : slots ≡ slots - 0 = omega arith in ap (λ z. replicate z (blank_point e)) q;
@@ -66,9 +68,9 @@ module _ {V : Type 0} (e : V) (table : List (State V)) (first last wires : ℕ) 
       let q : length x + length y ≡ 49 = omega arith in
       length-append x y ∙ q
 
-  module _ (n : ℕ) (points : List (Point V)) (strip strip' : List ℕ) (was : Filled e table first last wires F n slots room points strip) (p : Point V) (more : n < length F) (is : get_or F n (blank_point e) ≡ p)
+  module _ (n : ℕ) (points : List (Point V)) (strip strip' : List ℕ) (was : Filled e table first wires F n slots room points strip) (p : Point V) (more : n < length F) (is : get_or F n (blank_point e) ≡ p)
       (enough : length F ≤ slots) (wide : 49 * length F ≤ room) (few : wires ≤ 24)
-      (slot : ℕ) (from : first ≤ slot) (to : slot < last) (priced : point_in (row_at e table slot) ≡ p)
+      (slot : ℕ) (from : first ≤ slot) (to : slot < length table) (priced : point_in (row_at e table slot) ≡ p)
       (wrote : strip' ≡ take (49 * n) strip ++ (row_bytes (path_to e table wires slot) ++ drop (49 * n + 49) strip)) (kept : length strip' ≡ length strip) where
     -- the strip with its part replaced
     mid : strip' ≡ put_mid (49 * n) 49 strip (row_bytes (path_to e table wires slot))
@@ -79,7 +81,7 @@ module _ {V : Type 0} (e : V) (table : List (State V)) (first last wires : ℕ) 
     long_enough = let l = was.long in omega arith
 
     -- one point and its witness more
-    pub fill_more : Filled e table first last wires F (n + 1) slots room (set points n p) strip'
+    pub fill_more : Filled e table first wires F (n + 1) slots room (set points n p) strip'
     fill_more = record {
       within = omega arith;
       on_curve =
@@ -110,7 +112,7 @@ module _ {V : Type 0} (e : V) (table : List (State V)) (first last wires : ℕ) 
             ap (λ z. take z (drop (49 * i) s)) (sym q) ∙ between_is s (49 * i) (49 * i + 49)
 
         -- the rows before are as they were
-        old : (i : ℕ) → i < n → HasWitness e table first last wires F strip' i
+        old : (i : ℕ) → i < n → HasWitness e table first wires F strip' i
         old i h =
             let w = was.witness i h in
             let l = long_enough in
@@ -125,7 +127,7 @@ module _ {V : Type 0} (e : V) (table : List (State V)) (first last wires : ℕ) 
             }
 
         -- the row written
-        new : HasWitness e table first last wires F strip' n
+        new : HasWitness e table first wires F strip' n
         new =
             let l = long_enough in
             let q : 49 ≡ (49 * n + 49) - 49 * n = omega arith in
@@ -162,14 +164,14 @@ module _ {V : Type 0} (m : Measure V) {reach : ℕ → V → Type 0} (laws : Law
   pub over : length rows ≤ r → length (front m None (points_in rows)) ≤ n
   over h = let w = next.within in partly_done m e rows n after was (next_none m laws e rows fine after was.known r next (omega arith))
 
-module _ {V : Type 0} (e : V) (table rows : List (State V)) (first last r : ℕ) (long : last ≤ length table) (part : rows ≡ between first last table) (h : r < length rows) where
-  -- a row stands in the table, before the last place
-  pub slot_in : first + r < last
-  slot_in = let l : length rows ≡ last - first = ap length part ∙ length-between table first last long in omega arith
+module _ {V : Type 0} (e : V) (table rows : List (State V)) (first r : ℕ) (part : rows ≡ drop first table) (h : r < length rows) where
+  -- a row stands in the table
+  pub slot_in : first + r < length table
+  slot_in = let l : length rows ≡ length table - first = ap length part ∙ length-drop first table in omega arith
 
   -- and is the same there
   pub slot_same : row_at e table (first + r) ≡ row_at e rows r
-  slot_same = sym (ap (λ z. get_or z r (blank_state e)) part ∙ get_or-between table first last r (blank_state e) slot_in)
+  slot_same = sym (ap (λ z. get_or z r (blank_state e)) part ∙ get_or-drop first table r (blank_state e))
 
   -- its point, read at any defaults
   pub read_point : (x y : State V) → point_in (row_at e table (first + r)) ≡ record { power = (get_or rows r x).power; delay = (get_or rows r y).delay }
@@ -177,23 +179,3 @@ module _ {V : Type 0} (e : V) (table rows : List (State V)) (first last r : ℕ)
       let a = reads rows r (blank_state e) x h in
       let b = reads rows r (blank_state e) y h in
       ap point_in slot_same ∙ (λ t. record { power = (a t).power; delay = (b t).delay })
-
--- in a list that rises strictly, a later place has more
-rises_at : {A : Type 0} (key : A → ℕ) (e : A) (xs : List A) (i j : ℕ) → Rising key xs → i < j → j < length xs → key (get_or xs i e) < key (get_or xs j e)
-rises_at key e [] i j r lt h = absurd (not-suc-le-zero h)
-rises_at key e (x ∷ xs) i zero r lt h = absurd (not-suc-le-zero lt)
-rises_at key e (x ∷ xs) zero (suc j) r lt h = r.0 (get_or xs j e) (stands e xs j (le_of_suc-le-suc h))
-rises_at key e (x ∷ xs) (suc i) (suc j) r lt h = rises_at key e xs i j r.1 (le_of_suc-le-suc lt) (le_of_suc-le-suc h)
-
--- the next point is put behind the points that are written: its power is larger than that of the last one
-pub put_next : {V : Type 0} (m : Measure V) (e : V) (F : List (Point V)) (n slots : ℕ) (points : List (Point V)) (p : Point V) → Rising (λ q. q.power) F → n < length F → length F ≤ slots →
-    points ≡ take n F ++ replicate (slots - n) (blank_point e) → get_or F n (blank_point e) ≡ p → put_in_order (point_upto m) points 0 n p ≡ set points n p
-put_next {V} m e F n slots points p up lt enough is at_n =
-    let b = blank_point e in
-    let front_long : length (take n F) ≡ n = simp length-take (omega arith) in
-    let all_long : length points ≡ slots = ap length is ∙ length-append (take n F) (replicate (slots - n) b) ∙ (let r = length-replicate (slots - n) b in omega arith) in
-    put_in_order_last (point_upto m) points 0 n p b (omega arith) (omega arith) (λ some.
-    let here : get_or points (n - 1) b ≡ get_or F (n - 1) b = ap (λ z. get_or z (n - 1) b) is ∙ get_or_append_left (take n F) (replicate (slots - n) b) b (n - 1) (omega arith) ∙ get_or-take n F (n - 1) b (omega arith) in
-    let less : (get_or F (n - 1) b).power < (get_or F n b).power = rises_at (λ q. q.power) b F (n - 1) n up (omega arith) lt in
-    let x : (get_or points (n - 1) b).power < p.power = subst (λ (z : Point V). z.power < p.power) (sym here) (subst (λ (z : Point V). (get_or F (n - 1) b).power < z.power) at_n less) in
-    or_left (ltb (get_or points (n - 1) b).power p.power) _ (lt-ltb _ _ x))

@@ -7,9 +7,7 @@ pub mod Bests
 pub mod Merges
 pub mod Orders
 pub mod RowsCurve
-pub mod Ties
 pub mod Trails
 pub mod Bytes
 pub mod Fills
-pub mod Rooms
 pub mod Shows

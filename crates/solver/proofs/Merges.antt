@@ -5,9 +5,8 @@ use Rattle.measures.specs.Laws.{Laws}
 use Rattle.pricing.specs.Measures.{Measure}
 use Rattle.frontier.specs.declared.records.Point.{Point}
 use Rattle.frontier.specs.declared.records.State.{State}
-use Rattle.frontier.specs.Orders.{blank_state, point_upto}
 use Rattle.frontier.proofs.Members.{map_in, map_make}
-use Rattle.solver.specs.Front.{row_at, point_in, points_in, InReach, Known, ahead, Best, IsNext, Runs, FirstAhead, Head, Heads, LeastAhead}
+use Rattle.solver.specs.Front.{blank_state, row_at, point_in, points_in, InReach, Known, ahead, earlier, Best, IsNext, Runs, FirstAhead, Head, Heads, LeastAhead}
 use Rattle.solver.proofs.FrontSteps.{placed, stands, further}
 use Rattle.solver.proofs.Bests.{earlier_through, earlier_turned, good}
 
@@ -41,7 +40,7 @@ module _ {V : Type 0} (m : Measure V) {reach : ℕ → V → Type 0} (laws : Law
       within = so_far.within;
       none = λ q. split (λ i. (ahead m o (row_at e rows i).delay ≡ true) → ⊥) (get_or cuts k 0) (get_or cuts (k + 1) 0) (so_far.none q) (λ i low lt t. passed i low (omega arith) t);
       taken = so_far.taken;
-      least = λ q. split (λ i. (ahead m o (row_at e rows i).delay ≡ true) → (point_upto m (point_in (row_at e rows best)) (point_in (row_at e rows i)) ≡ true)) (get_or cuts k 0) (get_or cuts (k + 1) 0) (so_far.least q)
+      least = λ q. split (λ i. (ahead m o (row_at e rows i).delay ≡ true) → (earlier m (point_in (row_at e rows best)) (point_in (row_at e rows i)) ≡ true)) (get_or cuts k 0) (get_or cuts (k + 1) 0) (so_far.least q)
           (λ i low lt t. absurd (passed i low (omega arith) t));
     }
 
@@ -55,10 +54,10 @@ module _ {V : Type 0} (m : Measure V) {reach : ℕ → V → Type 0} (laws : Law
       in_p = in_run p pick.high
 
       -- the row picked is before every row ahead in its run
-      after_p : (i : ℕ) → get_or cuts k 0 ≤ i → i < get_or cuts (k + 1) 0 → ahead m o (row_at e rows i).delay ≡ true → point_upto m (point_in (row_at e rows p)) (point_in (row_at e rows i)) ≡ true
+      after_p : (i : ℕ) → get_or cuts k 0 ≤ i → i < get_or cuts (k + 1) 0 → ahead m o (row_at e rows i).delay ≡ true → earlier m (point_in (row_at e rows p)) (point_in (row_at e rows i)) ≡ true
       after_p i low lt t = go (cases_lt i h)
         where
-          go : (i < h) ⊎ (h ≤ i) → point_upto m (point_in (row_at e rows p)) (point_in (row_at e rows i)) ≡ true
+          go : (i < h) ⊎ (h ≤ i) → earlier m (point_in (row_at e rows p)) (point_in (row_at e rows i)) ≡ true
           go (inl s) = absurd (passed i low s t)
           go (inr s) = pick.least i s lt t
 
@@ -68,28 +67,28 @@ module _ {V : Type 0} (m : Measure V) {reach : ℕ → V → Type 0} (laws : Law
         within = let z = in_p in omega arith;
         none = λ z. absurd (let y = in_p in omega arith);
         taken = λ z. pick.taken;
-        least = λ z. split (λ i. (ahead m o (row_at e rows i).delay ≡ true) → (point_upto m (point_in (row_at e rows p)) (point_in (row_at e rows i)) ≡ true)) (get_or cuts k 0) (get_or cuts (k + 1) 0)
+        least = λ z. split (λ i. (ahead m o (row_at e rows i).delay ≡ true) → (earlier m (point_in (row_at e rows p)) (point_in (row_at e rows i)) ≡ true)) (get_or cuts k 0) (get_or cuts (k + 1) 0)
             (λ i lt t. absurd (so_far.none q i lt t)) after_p;
       }
 
       -- a row picked that the least is before
-      pub run_stays : best < length rows → point_upto m (point_in (row_at e rows best)) (point_in (row_at e rows p)) ≡ true → Best m e rows o (get_or cuts (k + 1) 0) best
+      pub run_stays : best < length rows → earlier m (point_in (row_at e rows best)) (point_in (row_at e rows p)) ≡ true → Best m e rows o (get_or cuts (k + 1) 0) best
       run_stays q t = record {
         within = so_far.within;
         none = λ z. absurd (omega arith);
         taken = so_far.taken;
-        least = λ z. split (λ i. (ahead m o (row_at e rows i).delay ≡ true) → (point_upto m (point_in (row_at e rows best)) (point_in (row_at e rows i)) ≡ true)) (get_or cuts k 0) (get_or cuts (k + 1) 0) (so_far.least q)
+        least = λ z. split (λ i. (ahead m o (row_at e rows i).delay ≡ true) → (earlier m (point_in (row_at e rows best)) (point_in (row_at e rows i)) ≡ true)) (get_or cuts k 0) (get_or cuts (k + 1) 0) (so_far.least q)
             (λ i low lt s. earlier_through m laws fine.0 fine.1 (point_in (row_at e rows best)) (point_in (row_at e rows p)) (point_in (row_at e rows i)) (good m laws e rows fine o best q)
             (good m laws e rows fine o p in_p) (good m laws e rows fine o i (in_run i lt)) t (after_p i low lt s));
       }
 
       -- a row picked that is before the least
-      pub run_changes : best < length rows → not (point_upto m (point_in (row_at e rows best)) (point_in (row_at e rows p))) ≡ true → Best m e rows o (get_or cuts (k + 1) 0) p
+      pub run_changes : best < length rows → not (earlier m (point_in (row_at e rows best)) (point_in (row_at e rows p))) ≡ true → Best m e rows o (get_or cuts (k + 1) 0) p
       run_changes q t = record {
         within = let z = in_p in omega arith;
         none = λ z. absurd (let y = in_p in omega arith);
         taken = λ z. pick.taken;
-        least = λ z. split (λ i. (ahead m o (row_at e rows i).delay ≡ true) → (point_upto m (point_in (row_at e rows p)) (point_in (row_at e rows i)) ≡ true)) (get_or cuts k 0) (get_or cuts (k + 1) 0)
+        least = λ z. split (λ i. (ahead m o (row_at e rows i).delay ≡ true) → (earlier m (point_in (row_at e rows p)) (point_in (row_at e rows i)) ≡ true)) (get_or cuts k 0) (get_or cuts (k + 1) 0)
             (λ i lt s. earlier_through m laws fine.0 fine.1 (point_in (row_at e rows p)) (point_in (row_at e rows best)) (point_in (row_at e rows i)) (good m laws e rows fine o p in_p) (good m laws e rows fine o best q)
             (good m laws e rows fine o i (in_run i (let r = runs.rises k six in omega arith)))
             (earlier_turned m laws fine.0 fine.1 (point_in (row_at e rows best)) (point_in (row_at e rows p)) (good m laws e rows fine o best q) (good m laws e rows fine o p in_p) t) (so_far.least q i lt s))
@@ -142,7 +141,7 @@ module _ {V : Type 0} (m : Measure V) (e : V) (rows : List (State V)) (cuts : Li
               let u = map_in point_in rows i in
               let x = placed (blank_state e) u.1 in
               let q : p ≡ point_in (row_at e rows x.0) = u.2 ∙ ap point_in x.2 in
-              subst (λ (z : Point V). (point_upto m (point_in (row_at e rows r)) z ≡ true)) (sym q) (next.least h x.0 x.1 (subst (λ (z : Point V). (ahead m o z.delay ≡ true)) q t)))
+              subst (λ (z : Point V). (earlier m (point_in (row_at e rows r)) z ≡ true)) (sym q) (next.least h x.0 x.1 (subst (λ (z : Point V). (ahead m o z.delay ≡ true)) q t)))
               (row_at e rows i).delay (good m laws e rows fine o i (omega arith)) t);
         };
   }

@@ -1,23 +1,20 @@
 -- The kept states of the last stage give the curve. Assumes nothing.
 use Rattle.std.proofs.Common.{◌≡◌, ℕ, true, List, [], ◌∷◌, map, length, None, sym, refl, ap, ◌∙◌, subst}
 use Rattle.drawing.specs.Lists.{keep}
-use Rattle.drawing.specs.Plans.{Plan, Sound}
 use Rattle.measures.specs.Laws.{Laws}
-use Rattle.pricing.specs.Allocations.{Book}
 use Rattle.pricing.specs.Measures.{Measure}
 use Rattle.frontier.specs.declared.records.Point.{Point}
 use Rattle.frontier.specs.declared.records.State.{State}
 use Rattle.frontier.specs.Lists.{◌∈◌, undominated}
 use Rattle.frontier.specs.Points.{at_or_below}
-use Rattle.frontier.specs.States.{kept_of, KeptRow}
-use Rattle.frontier.specs.Curves.{curve}
+use Rattle.frontier.specs.States.{kept_of}
 use Rattle.frontier.specs.Stages.{point_at}
 use Rattle.frontier.proofs.Members.{map_in, map_make}
 use Rattle.frontier.proofs.Sorted.{rising_in, rising_make}
 use Rattle.frontier.proofs.Allocations.{states_make}
 use Rattle.frontier.proofs.Reach.{limited_wires, state_reach}
 use Rattle.frontier.proofs.Ends.{row_last_holds}
-use Rattle.solver.specs.Front.{point_in, points_in, InReach, still_ahead, front}
+use Rattle.solver.specs.Front.{point_in, points_in, still_ahead, front, RowsCurve}
 use Rattle.solver.proofs.FrontSteps.{front_rises}
 
 -- a test that all pass keeps all
@@ -31,8 +28,7 @@ same_points [] = refl
 same_points (s ∷ rows) = ap (λ ps. point_in s ∷ ps) (same_points rows)
 
 -- what is taken from the kept states is the curve
-pub rows_curve : {V : Type 0} (m : Measure V) {reach : ℕ → V → Type 0} (laws : Laws m.empty m.made m.joined m.below reach) →
-    (book : Book) (d : Plan) → Sound d → (rows : List (State V)) → KeptRow m book d (map kept_of rows) → (front m None (points_in rows) ≡ curve m book d) × InReach reach (points_in rows)
+pub rows_curve : {V : Type 0} (m : Measure V) {reach : ℕ → V → Type 0} (laws : Laws m.empty m.made m.joined m.below reach) → RowsCurve m reach
 rows_curve {V} m {reach} laws book d ok rows row =
     let ps = points_in rows in
     let wires = limited_wires d ok in

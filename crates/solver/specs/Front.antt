@@ -1,15 +1,22 @@
 -- The curve taken point by point from the points of the last stage: after a point the next is the least in (power, delay) among
 -- those of smaller delay. Assumes nothing.
-use Rattle.std.specs.Prelude.{◌≡◌, ℕ, ◌+◌, ◌<◌, ◌≤◌, Bool, true, not, List, map, length, get_or, Some, None, Option, ◌≢◌, slice_index, slice_index_or}
+use Rattle.std.specs.Prelude.{◌≡◌, ℕ, ◌+◌, ◌<◌, ◌≤◌, Bool, true, not, ◌&&◌, ◌||◌, List, map, length, get_or, Some, None, Option, ◌==◌, ◌≢◌, nat_lt, slice_index, slice_index_or}
 use Rattle.drawing.specs.Lists.{keep}
+use Rattle.drawing.specs.Plans.{Plan, Sound}
+use Rattle.pricing.specs.Allocations.{Book}
 use Rattle.pricing.specs.Measures.{Measure}
 use Rattle.frontier.specs.declared.records.Point.{Point}
 use Rattle.frontier.specs.declared.records.State.{State}
 use Rattle.frontier.specs.Lists.{◌∈◌, undominated, rising}
 use Rattle.frontier.specs.Points.{at_or_below}
-use Rattle.frontier.specs.Orders.{blank_state, point_upto}
+use Rattle.frontier.specs.Curves.{curve}
+use Rattle.frontier.specs.States.{kept_of, KeptRow}
 
 module _ {V : Type 0} where
+  -- a state of noughts, with the value of no wire
+  abbrev pub blank_state : V → State V
+  blank_state e = record { last = 0; used = 0; power = 0; delay = e; from = 0; width = 0 }
+
   -- the row i
   abbrev pub row_at : V → List (State V) → ℕ → State V
   row_at e rows i = slice_index_or rows i (blank_state e)
@@ -37,6 +44,10 @@ module _ {V : Type 0} (m : Measure V) where
   ahead None v = true
   ahead (Some u) v = not (m.below u v)
 
+  -- by power, then by delay
+  abbrev pub earlier : Point V → Point V → Bool
+  earlier p q = nat_lt p.power q.power || (p.power == q.power && m.below p.delay q.delay)
+
   -- what is of smaller delay than the last point
   abbrev pub still_ahead : Option V → List (Point V) → List (Point V)
   still_ahead o ps = keep (λ p. ahead o p.delay) ps
@@ -50,11 +61,17 @@ module _ {V : Type 0} (m : Measure V) where
     pub within : r ≤ length rows
     pub none : r ≡ length rows → (i : ℕ) → i < count → ahead o (row_at e rows i).delay ≢ true
     pub taken : r < length rows → ahead o (row_at e rows r).delay ≡ true
-    pub least : r < length rows → (i : ℕ) → i < count → ahead o (row_at e rows i).delay ≡ true → point_upto m (point_in (row_at e rows r)) (point_in (row_at e rows i)) ≡ true
+    pub least : r < length rows → (i : ℕ) → i < count → ahead o (row_at e rows i).delay ≡ true → earlier (point_in (row_at e rows r)) (point_in (row_at e rows i)) ≡ true
 
   -- of all rows the row r is the least of those ahead
   abbrev pub IsNext : V → List (State V) → Option V → ℕ → Type 0
   IsNext e rows o r = Best e rows o (length rows) r
+
+-- the kept states of the last stage, in any order: what is taken from them is the curve
+abbrev pub RowsCurve : {V : Type 0} → Measure V → (ℕ → V → Type 0) → Type 0
+RowsCurve {V} m reach =
+    (book : Book) (d : Plan) → Sound d → (rows : List (State V)) → KeptRow m book d (map kept_of rows) →
+    (front m None (points_in rows) ≡ curve m book d) × InReach reach (points_in rows)
 
 -- rows in six runs, in each of which power does not fall: the run k stands from cut k up to cut (k + 1)
 module _ {V : Type 0} (e : V) (rows : List (State V)) where
@@ -87,7 +104,7 @@ module _ {V : Type 0} (m : Measure V) (e : V) (rows : List (State V)) where
     pub low : from ≤ r
     pub high : r < to
     pub taken : ahead m o (row_at e rows r).delay ≡ true
-    pub least : (i : ℕ) → from ≤ i → i < to → ahead m o (row_at e rows i).delay ≡ true → point_upto m (point_in (row_at e rows r)) (point_in (row_at e rows i)) ≡ true
+    pub least : (i : ℕ) → from ≤ i → i < to → ahead m o (row_at e rows i).delay ≡ true → earlier m (point_in (row_at e rows r)) (point_in (row_at e rows i)) ≡ true
 
   -- how far each run is gone through: what lies behind is not ahead any more
   pub record Head (cuts : List ℕ) (o : Option V) (k h : ℕ) : Type 0 where

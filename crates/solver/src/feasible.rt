@@ -1,7 +1,7 @@
 //! Whether any allocation is lawful, found with six numbers: for each last space the least used width of a partial allocation.
-ghost use Rattle.std.specs.Prelude.{◌≡◌, ℕ, ◌<◌, ◌≤◌, true, not, ◌&&◌, length, slice_index};
+ghost use Rattle.std.specs.Prelude.{◌≡◌, ℕ, ◌<◌, ◌≤◌, true, not, length, slice_index};
 ghost use Rattle.drawing.specs.Shown.{plan_of};
-ghost use Rattle.pricing.specs.Allocations.{Allocation, lawful, is_step_of};
+ghost use Rattle.pricing.specs.Allocations.{Allocation, lawful};
 ghost use Rattle.frontier.specs.Points.{lawful_allocations};
 ghost use Rattle.frontier.specs.Refusals.{none_of};
 ghost use Rattle.solver.specs.Least.{LeastWidth, Into, Capped, First, Pushed};
@@ -13,19 +13,12 @@ use rules::RuleBook;
 // Stands for no partial allocation: more than any channel.
 const NONE: u32 = 1000;
 
-// Whether a grid has a width and a book allows it between two spaces.
-fn may_stand<B: RuleBook>(book: &B, widths: u8, left: u8, width: u8, right: u8) -> bool
-    ensures { result ≡ (is_step_of widths width && B.RuleBook.admits book.now left width right) }
-{
-    in_grid(widths, width) && book.allows(left, width, right)
-}
-
 // The least width that a book allows between two spaces; 7 where it allows none.
 fn least_width<B: RuleBook>(book: &B, widths: u8, left: u8, right: u8) -> u8
     ensures { LeastWidth (B.RuleBook.admits book.now) widths left right result }
 {
     for w in 1..7u8 {
-        if may_stand(book, widths, left, w, right) {
+        if in_grid(widths, w) && book.allows(left, w, right) {
             return w;
         }
     }

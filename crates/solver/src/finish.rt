@@ -1,43 +1,47 @@
 //! The curve and its witnesses, written into what was lent for them.
-ghost use Rattle.std.specs.Prelude.{◌≡◌, ℕ, ◌*◌, ◌<◌, ◌≤◌, true, length, is_ok, None};
-ghost use Rattle.std.specs.List.{between};
-ghost use Rattle.drawing.specs.Edits.{unless_refused, first_reason};
+ghost use Rattle.std.specs.Prelude.{◌≡◌, ℕ, ◌*◌, ◌<◌, ◌≤◌, length, drop, None, slice_set};
 ghost use Rattle.pricing.specs.Measures.{meaning};
-ghost use Rattle.solver.specs.Front.{points_in, front, InReach, Ordered, Runs};
-ghost use Rattle.solver.specs.Trail.{Safe};
-ghost use Rattle.solver.specs.Written.{Filled, room_reasons};
+ghost use Rattle.solver.specs.Front.{points_in, front, InReach, Runs};
+ghost use Rattle.solver.specs.Trail.{Back};
+ghost use Rattle.solver.specs.Written.{Filled, FilledShown};
 
-use crate::points::{count_points, first_heads, next_row, run_cuts};
+use crate::blank::{blank, blank_points};
+use crate::points::{first_heads, next_row};
 use crate::witness::write_witness;
-use drawing::Refusal;
-use frontier::{Point, State, blank_all, insert};
+use frontier::{Point, State};
 use measures::DelayMeasure;
 
-// Writes the curve of the rows, which stand in the table from `first` on and before `last`, and a witness for each point; blanks the rest.
+// Writes a point at a place.
+fn put_point<V: Copy>(points: &mut [Point<V>], place: usize, point: Point<V>)
+    requires { place < length points.old }
+    ensures { points.new ≡ slice_set points.old place point }
+{
+    points[place] = point;
+}
+
+// Writes the curve of the rows, which stand in the table from `first` on, and a witness for each point; blanks the rest.
 pub(crate) fn write_curve<M: DelayMeasure>(
     measure: &M,
     table: &[State<M::Value>],
     first: usize,
-    last: usize,
+    rows: &[State<M::Value>],
     cuts: &[usize],
     wires: usize,
     points: &mut [Point<M::Value>],
     strip: &mut [u8],
 ) -> usize
-    requires low { first ≤ last }
-    requires high { last ≤ length table.now }
-    requires reached { InReach (M.DelayMeasure.reach measure.now) (points_in (between first last table.now)) }
-    requires runs { Runs M.DelayMeasure.empty (between first last table.now) cuts.now }
+    requires part { rows.now ≡ drop first table.now }
+    requires reached { InReach (M.DelayMeasure.reach measure.now) (points_in rows.now) }
+    requires runs { Runs M.DelayMeasure.empty rows.now cuts.now }
     requires few { wires ≤ 24 }
-    requires safe { (i : ℕ) → first ≤ i → i < last → Safe M.DelayMeasure.empty table.now wires i }
-    requires slots { length (front (meaning M.DelayMeasure measure.now) None (points_in (between first last table.now))) ≤ length points.old }
-    requires room { 49 * length (front (meaning M.DelayMeasure measure.now) None (points_in (between first last table.now))) ≤ length strip.old }
-    ensures count { result ≡ length (front (meaning M.DelayMeasure measure.now) None (points_in (between first last table.now))) }
-    ensures filled { Filled M.DelayMeasure.empty table.now first last wires (front (meaning M.DelayMeasure measure.now) None (points_in (between first last table.now))) result (length points.old) (length strip.old) points.new strip.new }
+    requires back { (i : ℕ) → first ≤ i → i < length table.now → Back M.DelayMeasure.empty table.now wires i }
+    requires slots { length (front (meaning M.DelayMeasure measure.now) None (points_in rows.now)) ≤ length points.old }
+    requires room { 49 * length (front (meaning M.DelayMeasure measure.now) None (points_in rows.now)) ≤ length strip.old }
+    ensures count { result ≡ length (front (meaning M.DelayMeasure measure.now) None (points_in rows.now)) }
+    ensures filled { Filled M.DelayMeasure.empty table.now first wires (front (meaning M.DelayMeasure measure.now) None (points_in rows.now)) result (length points.old) (length strip.old) points.new strip.new }
 {
-    blank_all::<M, Point<M::Value>>(points);
-    strip.fill(0);
-    let rows = &table[first..last];
+    blank_points::<M>(points);
+    blank(strip, 0);
     let mut heads = first_heads(cuts);
     let mut n = 0;
     let mut after = None;
@@ -46,10 +50,8 @@ pub(crate) fn write_curve<M: DelayMeasure>(
         if row >= rows.len() {
             return n;
         }
-        insert(
-            measure,
+        put_point(
             points,
-            0,
             n,
             Point {
                 power: rows[row].power,
@@ -62,35 +64,9 @@ pub(crate) fn write_curve<M: DelayMeasure>(
     }
 }
 
-// Counts the points of the rows, which stand in the table from `first` on and before `last`. Writes them with a witness for each and blanks
-// the rest, or refuses where there are more points than slots or their rows are longer than the strip.
-// Inner: solve joins this with the other parts
-pub fn show_curve<M: DelayMeasure>(
-    measure: &M,
-    table: &[State<M::Value>],
-    first: usize,
-    last: usize,
-    wires: usize,
-    points: &mut [Point<M::Value>],
-    strip: &mut [u8],
-) -> Result<usize, Refusal>
-    requires low { first ≤ last }
-    requires high { last ≤ length table.now }
-    requires ordered { Ordered M.DelayMeasure.empty (between first last table.now) }
-    requires reached { InReach (M.DelayMeasure.reach measure.now) (points_in (between first last table.now)) }
-    requires few { wires ≤ 24 }
-    requires safe { (i : ℕ) → first ≤ i → i < last → Safe M.DelayMeasure.empty table.now wires i }
-    ensures reply { result ≡ unless_refused (first_reason (room_reasons (length (front (meaning M.DelayMeasure measure.now) None (points_in (between first last table.now)))) (length points.old) (length strip.old))) (length (front (meaning M.DelayMeasure measure.now) None (points_in (between first last table.now)))) }
-    ensures filled { is_ok result ≡ true → Filled M.DelayMeasure.empty table.now first last wires (front (meaning M.DelayMeasure measure.now) None (points_in (between first last table.now))) (length (front (meaning M.DelayMeasure measure.now) None (points_in (between first last table.now)))) (length points.old) (length strip.old) points.new strip.new }
+// What is so written of a chained table whose last stage holds the kept states is the curve, with a lawful witness in each row.
+pub(crate) fn filled_is_shown<M: DelayMeasure>() -> u8
+    ensures { (m : M) → FilledShown (meaning M.DelayMeasure m) M.DelayMeasure.empty }
 {
-    let rows = &table[first..last];
-    let cuts = run_cuts::<M>(rows);
-    let n = count_points(measure, rows, &cuts);
-    if n > points.len() {
-        return Err(Refusal::TooFewPoints);
-    }
-    if n > strip.len() / 49 {
-        return Err(Refusal::TooFewPoints);
-    }
-    Ok(write_curve(measure, table, first, last, &cuts, wires, points, strip))
+    0
 }

@@ -1,10 +1,17 @@
 //! The points of the curve, taken one by one from the rows of the last stage.
 ghost use Rattle.std.specs.Prelude.{◌≡◌, ℕ, ◌<◌, ◌≤◌, true, length, None, slice_index};
 ghost use Rattle.pricing.specs.Measures.{meaning};
-ghost use Rattle.solver.specs.Front.{row_at, ahead, points_in, front, InReach, IsNext, FirstAhead, LeastAhead, Tied, Heads, Runs, Ordered, Cut};
+ghost use Rattle.solver.specs.Front.{row_at, ahead, earlier, points_in, front, InReach, IsNext, FirstAhead, LeastAhead, Tied, Heads, Runs, Ordered, Cut, RowsCurve};
 
-use frontier::{Point, Record, State};
+use frontier::{Point, State};
 use measures::DelayMeasure;
+
+// Whether one point comes before another, by power and then by delay.
+fn comes_before<M: DelayMeasure>(measure: &M, a: Point<M::Value>, b: Point<M::Value>) -> bool
+    ensures { result ≡ earlier (meaning M.DelayMeasure measure.now) a b }
+{
+    a.power < b.power || (a.power == b.power && measure.not_above(a.delay, b.delay))
+}
 
 // Whether a delay is smaller than that of the last point, if there is one.
 fn is_ahead<M: DelayMeasure>(measure: &M, after: Option<M::Value>, delay: M::Value) -> bool
@@ -63,7 +70,7 @@ fn least_ahead<M: DelayMeasure>(
                 power: rows[i].power,
                 delay: rows[i].delay,
             };
-            if !least.is_upto(measure, &here) {
+            if !comes_before(measure, least, here) {
                 best = i;
             }
         }
@@ -105,7 +112,7 @@ pub(crate) fn next_row<M: DelayMeasure>(
                     power: rows[pick].power,
                     delay: rows[pick].delay,
                 };
-                if !least.is_upto(measure, &here) {
+                if !comes_before(measure, least, here) {
                     best = pick;
                 }
             }
@@ -177,4 +184,11 @@ pub(crate) fn run_cuts<M: DelayMeasure>(rows: &[State<M::Value>]) -> [usize; 7]
         cuts[k] = at_cut;
     }
     cuts
+}
+
+// What is taken point by point from the kept states of the last stage is the curve.
+pub(crate) fn rows_are_the_curve<M: DelayMeasure>() -> u8
+    ensures { (m : M) → RowsCurve (meaning M.DelayMeasure m) (M.DelayMeasure.reach m) }
+{
+    0
 }

@@ -1,7 +1,8 @@
 //! The witness of a row of the state table, written into the 49 bytes of a row of the strip.
 ghost use Rattle.std.specs.Prelude.{◌≡◌, ◌+◌, ◌*◌, ◌≤◌, ◌++◌, length, take, drop, replicate};
+ghost use Rattle.pricing.specs.Measures.{meaning};
 ghost use Rattle.solver.specs.Strips.{row_bytes};
-ghost use Rattle.solver.specs.Trail.{path_to, Safe};
+ghost use Rattle.solver.specs.Trail.{path_to, Safe, TrailLawful, ChainLinked};
 
 use frontier::State;
 use measures::DelayMeasure;
@@ -42,4 +43,18 @@ pub(crate) fn write_witness<M: DelayMeasure>(
     let part = &mut strip[from..from + 49];
     part.fill(0);
     trace::<M>(table, wires, slot, part);
+}
+
+// The way back from a row of the last stage is a lawful allocation with the row's power and delay.
+pub(crate) fn trail_is_lawful<M: DelayMeasure>() -> u8
+    ensures { (m : M) → TrailLawful (meaning M.DelayMeasure m) M.DelayMeasure.empty }
+{
+    0
+}
+
+// Every row of a chained table is linked, and its way back stays in the table.
+pub(crate) fn chain_is_linked<M: DelayMeasure>() -> u8
+    ensures { (m : M) → ChainLinked (meaning M.DelayMeasure m) M.DelayMeasure.empty }
+{
+    0
 }

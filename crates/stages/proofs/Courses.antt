@@ -1,11 +1,12 @@
 -- From the kept states of one stage to those of the next. Assumes nothing.
-use Rattle.std.proofs.Common.{◌≡◌, ℕ, suc, ◌+◌, ◌-◌, ◌<◌, ◌≤◌, true, eqb, ltb, leb, ◌↔◌, List, map, length, take, drop, Some, None, Option, sym, ap, ◌∙◌, subst, arith, length-drop, length-take, get_or-drop, get_or-take}
+use Rattle.std.proofs.Common.{◌≡◌, ℕ, suc, ◌+◌, ◌-◌, ◌<◌, ◌≤◌, true, ◌&&◌, eqb, ltb, leb, ◌↔◌, List, map, length, take, drop, Some, None, Option, sym, ap, ◌∙◌, subst, arith, length-drop, length-take, get_or-drop, get_or-take}
 use Rattle.std.proofs.lemmas.List.{same_lists}
-use Rattle.std.proofs.lemmas.Bool.{leb-true, ltb-false, or_parts}
+use Rattle.std.proofs.lemmas.Bool.{leb-true, le-leb, ltb-false, or_parts}
 use Rattle.drawing.specs.declared.words.Grid.{Grid}
 use Rattle.drawing.specs.declared.words.Wire.{Wire}
 use Rattle.drawing.specs.Lists.{keep}
 use Rattle.drawing.specs.Plans.{Plan, Sound, within_limits}
+use Rattle.rules.specs.Steps.{step, three_steps}
 use Rattle.measures.specs.Laws.{Laws}
 use Rattle.pricing.specs.Allocations.{Book}
 use Rattle.pricing.specs.Measures.{Measure}
@@ -15,20 +16,24 @@ use Rattle.frontier.specs.declared.records.State.{State}
 use Rattle.frontier.specs.Lists.{◌∈◌, Fresh, each, unbeaten, undominated}
 use Rattle.frontier.specs.States.{Kept, kept_of, first, state_below, kept, KeptRow}
 use Rattle.frontier.specs.Stages.{extended, extensions}
-use Rattle.frontier.proofs.Members.{and_right, all_in, keep_in}
+use Rattle.frontier.proofs.Members.{and_right, and_both, all_in, keep_in}
 use Rattle.frontier.proofs.Reach.{delay_small, limited_wires}
 use Rattle.frontier.proofs.Counts.{distinct_fresh, row_next_holds, kept_counted_holds}
-use Rattle.frontier.specs.Orders.{kept_upto}
-use Rattle.stages.specs.Laid.{laid_as}
-use Rattle.stages.specs.Table.{rows, blank, slot, at, Task, Made, all_offers, Staged}
+use Rattle.stages.specs.Table.{laid_as, Step, rows, blank, slot, at, upto, Task, Made, all_offers, Staged}
 use Rattle.stages.specs.Stage.{Course, Fits, AheadOf, Onward}
-use Rattle.stages.proofs.Order.{three_of}
 use Rattle.stages.proofs.Heads.{read_front}
 use Rattle.stages.proofs.Places.{at_member, orders, offers_good}
 
 -- the channel of a sound plan is at most 300
 pub narrow : (d : Plan) → Sound d → d.channel ≤ 300
 narrow d ok = ltb-false 300 d.channel (or_parts (eqb d.channel 0) (ltb 300 d.channel) ok.channelled).1
+
+-- numbers from 1 to 6 are steps
+three : {l w r : ℕ} → Step l → Step w → Step r → three_steps l w r ≡ true
+three {l} {w} {r} hl hw hr = and_both (step l) (step w && step r) (one l hl) (and_both (step w) (step r) (one w hw) (one r hr))
+  where
+    one : (n : ℕ) → Step n → step n ≡ true
+    one n h = and_both (leb 1 n) (leb n 6) (le-leb 1 n h.0) (le-leb n 6 h.1)
 
 -- the front holds the stage
 front_part : {A : Type 0} (t : List A) (a b : ℕ) → a ≤ b → b ≤ length t → take (b - a) (drop a (take b t)) ≡ take (b - a) (drop a t)
@@ -73,9 +78,10 @@ module _ {V : Type 0} (m : Measure V) {reach : ℕ → V → Type 0} (laws : Law
     high = go.stage.high;
     standing = record {
       fit = λ i l h. let f = stage_fits i l h in record { last = f.last; used = f.used; power = omega (arith, f.power, go.inside, go.sound.few); near = (j, omega (arith, go.inside, go.sound.few), f.near) };
-      ordered = λ i k l lt h.
+      ordered = λ i k l lt h e.
           let ih : i < b = omega arith in
-          subst (λ (z : Kept V). kept_upto m z (at m (take b t) k) ≡ true) (front i ih) (subst (λ (z : Kept V). kept_upto m (at m t i) z ≡ true) (front k h) (go.stage.ordered i k l lt h));
+          let u = go.stage.ordered i k l lt h (ap (λ (z : Kept V). z.last) (front i ih) ∙ e ∙ sym (ap (λ (z : Kept V). z.last) (front k h))) in
+          subst (λ (z : Kept V). upto m z (at m (take b t) k) ≡ true) (front i ih) (subst (λ (z : Kept V). upto m (at m t i) z ≡ true) (front k h) u);
     };
   }
 
@@ -117,7 +123,7 @@ module _ {V : Type 0} (m : Measure V) {reach : ℕ → V → Type 0} (laws : Law
       let y = laid_as q (at m (take b t) i).last x.width r in
       let e : j + 1 ≡ suc j = omega arith in
       let near = laws.joined_reach j 1 (at m (take b t) i).delay (m.made (wire_delay y) q.t) (omega (arith, go.inside, go.sound.few)) old.near (laws.made_reach (wire_delay y) q.t (delay_small y fits_wire o.width.1)) in
-      let small : wire_power y ≤ 480000 = power_small y fits_wire (three_of old.last o.width o.space) in
+      let small : wire_power y ≤ 480000 = power_small y fits_wire (three old.last o.width o.space) in
       let f : Fits m reach book channel (suc j) (extended m q (at m (take b t) i) x.width r) = record {
         last = o.space;
         used = leb-true _ _ (and_right (book (at m (take b t) i).last x.width r) (leb ((at m (take b t) i).used + x.width + r) channel) o.follows);

@@ -1,11 +1,9 @@
-pub mod Cuts
 pub mod Order
 pub mod Sift
 pub mod Places
 pub mod Heads
 pub mod Leasts
 pub mod Turns
-pub mod Settling
 pub mod Fill
 pub mod Courses
 pub mod Openings

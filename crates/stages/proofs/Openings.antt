@@ -1,5 +1,5 @@
 -- Stage 0 is written space by space, and holds the kept states of no wire. Assumes nothing.
-use Rattle.std.proofs.Common.{◌≡◌, ℕ, zero, suc, ◌+◌, ◌-◌, ◌<◌, ◌≤◌, Bool, true, false, cond, leb, ◌≢◌, ◌⊎◌, List, [], ◌∷◌, ◌++◌, map, length, get_or, set, sym, refl, ap, ◌∙◌, subst, inl, inr, arith, length-append, length-set, get_or-set_other, get_or-set_same}
+use Rattle.std.proofs.Common.{◌≡◌, ℕ, zero, suc, ◌+◌, ◌<◌, ◌≤◌, Bool, true, false, cond, leb, ◌≢◌, ◌⊎◌, List, [], ◌∷◌, ◌++◌, map, length, get_or, set, sym, refl, ap, ◌∙◌, subst, inl, inr, arith, length-append, length-set, get_or-set_other, get_or-set_same}
 use mathlib.Core.List.Memᴰ
 use Rattle.std.proofs.lemmas.List.{get_or_append_left, get_or_at}
 use Rattle.std.proofs.lemmas.Bool.{leb-true, le-leb}
@@ -14,8 +14,6 @@ use Rattle.frontier.specs.declared.records.State.{State}
 use Rattle.frontier.specs.Lists.{◌∈◌, Fresh}
 use Rattle.frontier.specs.States.{Kept, kept_of, kept}
 use Rattle.frontier.specs.Stages.{start, starts}
-use Rattle.frontier.specs.Orders.{state_upto, put_in_order}
-use Rattle.frontier.proofs.Placing.{put_in_order_last}
 use Rattle.frontier.proofs.Members.{keep_in, keep_make, map_in, map_make}
 use Rattle.frontier.proofs.Allocations.{among_in, among_make}
 use Rattle.frontier.proofs.Reach.{limited_wires}
@@ -24,8 +22,7 @@ use Rattle.frontier.proofs.Ends.{row_first_holds}
 use Rattle.stages.specs.Table.{stated, rows, blank, slot, at}
 use Rattle.stages.specs.Stage.{at_stage, Fits, Stage}
 use Rattle.stages.specs.Openings.{Begins, Opening}
-use Rattle.stages.proofs.Order.{in_order_make}
-use Rattle.stages.proofs.Cuts.{last_or}
+use Rattle.stages.proofs.Sift.{last_or}
 use Rattle.stages.proofs.Places.{fresh_from, step_in, rows_length, rows_in, rows_make, rows_fresh}
 
 -- the states of no wire, by grid and channel
@@ -111,15 +108,12 @@ module _ {V : Type 0} (m : Measure V) (grid : Grid) (channel : ℕ) where
               let e' : (slot m t₁ k').last ≡ s = ap (λ (z : ℕ). (slot m t₁ z).last) l ∙ newest in
               omega arith
 
-    -- the state of the space s is put in its order, which is at the end
-    pub opening_put : is_step_of grid.spaces s ≡ true → s ≤ channel → end < length t → (t₁ : List (State V)) → t₁ ≡ put_in_order (state_upto m) t 0 end (stated (start m s) 0 0) →
+    -- the state of the space s is written
+    pub opening_put : is_step_of grid.spaces s ≡ true → s ≤ channel → end < length t → (t₁ : List (State V)) → t₁ ≡ set t end (stated (start m s) 0 0) →
         Opening m grid channel (s + 1) t₁ (end + 1)
     opening_put on room lt t₁ e =
         let v = stated (start m s) 0 0 in
-        let at_end : put_in_order (state_upto m) t 0 end v ≡ set t end v = put_in_order_last (state_upto m) t 0 end v (blank m) (omega arith) lt (λ h.
-        let before = was.earlier (end - 1) (omega arith) in
-        in_order_make m (at m t (end - 1)) (start m s) (omega arith) (λ same. absurd (omega arith))) in
-        subst (λ (z : List (State V)). Opening m grid channel (s + 1) z (end + 1)) (sym (e ∙ at_end))
+        subst (λ (z : List (State V)). Opening m grid channel (s + 1) z (end + 1)) (sym e)
         (opening_more on room (set t end v) (λ k h. let ne : k ≢ end = omega arith in get_or-set_other t end k v (blank m) ne) (get_or-set_same t end v (blank m) lt) (omega (arith, length-set t end v)))
 
   -- different places hold different states
@@ -197,7 +191,7 @@ module _ {V : Type 0} (m : Measure V) {reach : ℕ → V → Type 0} (laws : Law
     high = was.high;
     row = row_first_holds m book d (rows t 0 end) (opening_fresh m d.grid d.channel 7 t end was) (λ s. (to s, from s));
     fits = λ i l h. fits i h;
-    ordered = λ i k l h lt. let r = was.rising i k h lt in in_order_make m (at m t i) (at m t k) (omega arith) (λ e. absurd (omega arith));
+    ordered = λ i k l h lt e. let r = was.rising i k h lt in absurd (omega arith);
   }
     where
       to : (s : Kept V) → s ∈ rows t 0 end → s ∈ starts m d

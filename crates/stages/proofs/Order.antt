@@ -1,9 +1,8 @@
 -- The order in which a stage's states stand. Assumes nothing.
-use Rattle.std.proofs.Common.{◌≡◌, ℕ, ◌+◌, ◌<◌, ◌≤◌, Bool, true, ◌&&◌, ◌||◌, eqb, ltb, leb, ◌⊎◌, sym, refl, ap, ◌∙◌, subst, inl, inr, arith}
-use Rattle.std.proofs.lemmas.Bool.{le-leb, ltb-true, eqb-true, lt-ltb, eq-eqb, cases_order}
+use Rattle.std.proofs.Common.{◌≡◌, ℕ, ◌+◌, ◌<◌, ◌≤◌, Bool, true, ◌&&◌, ◌||◌, eqb, ltb, ◌⊎◌, sym, refl, ap, ◌∙◌, subst, inl, inr, arith}
+use Rattle.std.proofs.lemmas.Bool.{ltb-true, eqb-true, lt-ltb, eq-eqb, cases_order}
 use Rattle.drawing.specs.declared.words.Wire.{Wire}
 use Rattle.drawing.specs.Plans.{within_limits}
-use Rattle.rules.specs.Steps.{step, three_steps}
 use Rattle.measures.specs.Laws.{Laws}
 use Rattle.pricing.specs.Measures.{Measure}
 use Rattle.pricing.specs.WirePrices.{wire_delay, wire_power}
@@ -12,16 +11,7 @@ use Rattle.frontier.specs.Stages.{extended}
 use Rattle.frontier.proofs.Members.{and_left, and_right, and_both, or_cases, or_left, or_right}
 use Rattle.frontier.proofs.Reach.{delay_small}
 use Rattle.frontier.proofs.Extending.{Below, below_parts, below_make}
-use Rattle.frontier.specs.Orders.{upto, kept_upto}
-use Rattle.stages.specs.Laid.{laid_as, Step}
-use Rattle.stages.specs.Table.{Fit}
-
--- numbers from 1 to 6 are steps
-pub three_of : {l w r : ℕ} → Step l → Step w → Step r → three_steps l w r ≡ true
-three_of {l} {w} {r} hl hw hr = and_both (step l) (step w && step r) (one l hl) (and_both (step w) (step r) (one w hw) (one r hr))
-  where
-    one : (n : ℕ) → Step n → step n ≡ true
-    one n h = and_both (leb 1 n) (leb n 6) (le-leb 1 n h.0) (le-leb n 6 h.1)
+use Rattle.stages.specs.Table.{laid_as, Step, upto, Fit}
 
 module _ {V : Type 0} (m : Measure V) where
   -- how one state comes no later than another
@@ -73,25 +63,6 @@ module _ {V : Type 0} (m : Measure V) where
         | by_used p u ↦ or_right lp (ep && (lu || (eu && na))) (and_both ep (lu || (eu && na)) (eq-eqb _ _ p) (or_left lu (eu && na) (lt-ltb _ _ u)))
         | by_delay p u d ↦ or_right lp (ep && (lu || (eu && na))) (and_both ep (lu || (eu && na)) (eq-eqb _ _ p) (or_right lu (eu && na) (and_both eu na (eq-eqb _ _ u) d)))
       ]
-
-  -- in order by last space, and within one last space
-  pub in_order : (x y : Kept V) → kept_upto m x y ≡ true → (x.last ≤ y.last) × (x.last ≡ y.last → upto m x y ≡ true)
-  in_order x y t = go (or_cases (ltb x.last y.last) (eqb x.last y.last && upto m x y) t)
-    where
-      go : (ltb x.last y.last ≡ true) ⊎ ((eqb x.last y.last && upto m x y) ≡ true) → (x.last ≤ y.last) × (x.last ≡ y.last → upto m x y ≡ true)
-      go (inl l) = let h = ltb-true _ _ l in (omega arith, λ e. absurd (omega arith))
-      go (inr u) =
-          let e = eqb-true _ _ (and_left (eqb x.last y.last) (upto m x y) u) in
-          (omega arith, λ e'. and_right (eqb x.last y.last) (upto m x y) u)
-
-  -- and the other way
-  pub in_order_make : (x y : Kept V) → x.last ≤ y.last → (x.last ≡ y.last → upto m x y ≡ true) → kept_upto m x y ≡ true
-  in_order_make x y le up = go (cases_order x.last y.last)
-    where
-      go : (x.last ≡ y.last) ⊎ ((x.last < y.last) ⊎ (y.last < x.last)) → kept_upto m x y ≡ true
-      go (inl e) = or_right (ltb x.last y.last) (eqb x.last y.last && upto m x y) (and_both (eqb x.last y.last) (upto m x y) (eq-eqb _ _ e) (up e))
-      go (inr (inl h)) = or_left (ltb x.last y.last) (eqb x.last y.last && upto m x y) (lt-ltb _ _ h)
-      go (inr (inr h)) = absurd (omega arith)
 
 -- in reach of at most 24 wires
 abbrev pub Near : {V : Type 0} → (ℕ → V → Type 0) → Kept V → Type 0

@@ -22,8 +22,7 @@ use Rattle.frontier.proofs.Fronts.{Orders, front_in, front_make}
 use Rattle.frontier.proofs.Allocations.{among_in, among_make}
 use Rattle.frontier.proofs.Extending.{below_parts}
 use Rattle.frontier.proofs.Counts.{count_le}
-use Rattle.stages.specs.Laid.{Step}
-use Rattle.stages.specs.Table.{rows, blank, slot, at, Standing, Offered, Sifted, Before, all_offers, Next, Between}
+use Rattle.stages.specs.Table.{Step, rows, blank, slot, at, Standing, Offered, Sifted, Before, all_offers, Next, Between}
 use Rattle.stages.proofs.Order.{Near, below_same, below_through}
 use Rattle.stages.proofs.Sift.{offer_near}
 
@@ -203,5 +202,5 @@ module _ {V : Type 0} (m : Measure V) {reach : ℕ → V → Type 0} (laws : Law
           λ i. sifted_all (Before m book grid channel q t a b 7) 7 t' end S B.low B.high (λ i w r o. omega (arith, o.space.1)) x i,
         );
         fresh = sifted_fresh (Before m book grid channel q t a b 7) 7 t' end S B.low B.high;
-        ordered = S.ordered;
+        ordered = λ k k' h i j. (S.ordered k k' h i j).1;
       }

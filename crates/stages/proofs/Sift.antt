@@ -12,10 +12,16 @@ use Rattle.frontier.specs.Lists.{unbeaten}
 use Rattle.frontier.specs.States.{Kept, kept_of, first, state_below}
 use Rattle.frontier.specs.Stages.{extended}
 use Rattle.frontier.proofs.Extending.{below_parts}
-use Rattle.frontier.specs.Orders.{upto, kept_upto}
-use Rattle.stages.specs.Table.{stated, slot, at, Fit, Standing, Head, Least, Offered, Made, Sifted, Before, Ahead}
-use Rattle.stages.proofs.Cuts.{last_or}
-use Rattle.stages.proofs.Order.{in_order, in_order_make, Near, upto_through, below_first, below_same, below_through, extended_near, extended_upto}
+use Rattle.stages.specs.Table.{stated, slot, at, upto, Fit, Standing, Head, Least, Offered, Made, Sifted, Before, Ahead}
+use Rattle.stages.proofs.Order.{Near, upto_through, below_first, below_same, below_through, extended_near, extended_upto}
+
+-- a number below n + 1 is below n, or n
+pub last_or : (k n : ℕ) → k < n + 1 → (k < n) ⊎ (k ≡ n)
+last_or k n h = go (cases_lt k n)
+  where
+    go : (k < n) ⊎ (n ≤ k) → (k < n) ⊎ (k ≡ n)
+    go (inl l) = inl l
+    go (inr l) = inr (omega arith)
 
 module _ {V : Type 0} (m : Measure V) {reach : ℕ → V → Type 0} (laws : Laws m.empty m.made m.joined m.below reach) (book : Book) (grid : Grid) (channel : ℕ) (q : Wire) (fits : within_limits q ≡ true)
     (t : List (State V)) (a b : ℕ) (st : Standing m reach channel t a b) where
@@ -51,29 +57,28 @@ module _ {V : Type 0} (m : Measure V) {reach : ℕ → V → Type 0} (laws : Law
     ordered = λ k k' h i j. absurd (omega arith);
   }
 
-  -- more offers are done, each covered by what is held
-  pub sift_past : (Done Done' Newly : ℕ → ℕ → ℕ → Type 0) (s : ℕ) (t' : List (State V)) (end : ℕ) → Held Done s t' end →
-      ((i w r : ℕ) → O i w r → Done' i w r → Done i w r ⊎ Newly i w r) → ((i w r : ℕ) → Done i w r → Done' i w r) →
-      ((i w r : ℕ) → O i w r → Newly i w r → (k : ℕ) × (b ≤ k) × (k < end) × (state_below m (at m t' k) (off i w r) ≡ true)) → Held Done' s t' end
-  sift_past Done Done' Newly s t' end S grows keeps why = record {
-    made = S.made;
-    alone = S.alone;
-    covered = λ i w r o d. cover i w r o (grows i w r o d);
-    fresh = S.fresh;
-    lasts = S.lasts;
-    later = λ k h i e j w o n. S.later k h i e j w o (λ d. n (keeps j w s d));
-    ordered = S.ordered;
-  }
-    where
-      cover : (i w r : ℕ) → O i w r → Done i w r ⊎ Newly i w r → (k : ℕ) × (b ≤ k) × (k < end) × (state_below m (at m t' k) (off i w r) ≡ true)
-      cover i w r o (inl d) = S.covered i w r o d
-      cover i w r o (inr n) = why i w r o n
-
-  -- one offer more is done
+  -- one offer more is done, and is not kept
   module _ (Done Done' : ℕ → ℕ → ℕ → Type 0) (s : ℕ) (t' : List (State V)) (end : ℕ) (S : Held Done s t' end) (i₀ w₀ : ℕ)
       (grows : (i w r : ℕ) → O i w r → Done' i w r → Done i w r ⊎ ((i ≡ i₀) × (w ≡ w₀) × (r ≡ s)))
       (keeps : (i w r : ℕ) → Done i w r → Done' i w r) where
-    -- and is kept, since nothing kept is at or below it
+    pub sift_drop : (O i₀ w₀ s → (k : ℕ) × (b ≤ k) × (k < end) × (state_below m (at m t' k) (off i₀ w₀ s) ≡ true)) → Held Done' s t' end
+    sift_drop why = record {
+      made = S.made;
+      alone = S.alone;
+      covered = λ i w r o d. cover i w r o (grows i w r o d);
+      fresh = S.fresh;
+      lasts = S.lasts;
+      later = λ k h i e j w o n. S.later k h i e j w o (λ d. n (keeps j w s d));
+      ordered = S.ordered;
+    }
+      where
+        cover : (i w r : ℕ) → O i w r → Done i w r ⊎ ((i ≡ i₀) × (w ≡ w₀) × (r ≡ s)) → (k : ℕ) × (b ≤ k) × (k < end) × (state_below m (at m t' k) (off i w r) ≡ true)
+        cover i w r o (inl d) = S.covered i w r o d
+        cover i w r o (inr (ei, ew, er)) =
+            let P : ℕ → ℕ → ℕ → Type 0 = λ i w r. O i w r → (k : ℕ) × (b ≤ k) × (k < end) × (state_below m (at m t' k) (off i w r) ≡ true) in
+            subst (λ (z : ℕ). P z w r) (sym ei) (subst (λ (z : ℕ). P i₀ z r) (sym ew) (subst (λ (z : ℕ). P i₀ w₀ z) (sym er) why)) o
+
+    -- or is kept, since nothing kept is at or below it
     pub sift_keep : O i₀ w₀ s → b ≤ end →
         ((i w r : ℕ) → Done i w r ⊎ (Done i w r → ⊥)) →
         (Done i₀ w₀ s → ⊥) →
@@ -157,14 +162,16 @@ module _ {V : Type 0} (m : Measure V) {reach : ℕ → V → Type 0} (laws : Law
             subst (λ (z : Kept V). upto m z (off i w s) ≡ true) (sym (old k j)) (S.later k h j (ap (λ (z : Kept V). z.last) (sym (old k j)) ∙ e) i w o n)
         later k h (inr j) e i w o n = subst (λ (z : Kept V). upto m z (off i w s) ≡ true) (sym (here_at k j)) (least i w o n)
 
-        ordered : (k k' : ℕ) → b ≤ k → k < k' → (k' < end) ⊎ (k' ≡ end) → kept_upto m (at m t'' k) (at m t'' k') ≡ true
+        ordered : (k k' : ℕ) → b ≤ k → k < k' → (k' < end) ⊎ (k' ≡ end) → ((at m t'' k).last ≤ (at m t'' k').last) × ((at m t'' k).last ≡ (at m t'' k').last → upto m (at m t'' k) (at m t'' k') ≡ true)
         ordered k k' h i (inl j) =
             let l : k < end = omega arith in
-            subst (λ (z : Kept V). kept_upto m z (at m t'' k') ≡ true) (sym (old k l)) (subst (λ (z : Kept V). kept_upto m (at m t' k) z ≡ true) (sym (old k' j)) (S.ordered k k' h i j))
+            let P : Kept V → Kept V → Type 0 = λ y z. (y.last ≤ z.last) × (y.last ≡ z.last → upto m y z ≡ true) in
+            subst (λ (z : Kept V). P z (at m t'' k')) (sym (old k l)) (subst (λ (z : Kept V). P (at m t' k) z) (sym (old k' j)) (S.ordered k k' h i j))
         ordered k k' h i (inr j) =
             let l : k < end = omega arith in
-            subst (λ (z : Kept V). kept_upto m z (at m t'' k') ≡ true) (sym (old k l)) (subst (λ (z : Kept V). kept_upto m (at m t' k) z ≡ true) (sym (here_at k' j))
-            (in_order_make m (at m t' k) (off i₀ w₀ s) (S.lasts k h l) (λ e. S.later k h l e i₀ w₀ o₀ undone)))
+            let P : Kept V → Kept V → Type 0 = λ y z. (y.last ≤ z.last) × (y.last ≡ z.last → upto m y z ≡ true) in
+            subst (λ (z : Kept V). P z (at m t'' k')) (sym (old k l)) (subst (λ (z : Kept V). P (at m t' k) z) (sym (here_at k' j))
+            (S.lasts k h l, λ e. S.later k h l e i₀ w₀ o₀ undone))
 
   -- the streams of one new space
   module _ (s : ℕ) (heads : List ℕ) (long : length heads ≡ 36) (each_head : (k : ℕ) → k < 36 → Head m t a b k (get_or heads k 0)) where
@@ -252,17 +259,15 @@ module _ {V : Type 0} (m : Measure V) {reach : ℕ → V → Type 0} (laws : Law
             let e : h ≡ i = omega arith in
             subst (λ (z : ℕ). upto m (off (get_or heads k₀ 0) (k₀ % 6 + 1) s) (off z w s) ≡ true) e up
         go f h low hi fh lasts up n₀ nh ni (inl l) =
-            let step = extended_upto m laws channel q fits (at m t h) (at m t i) w s fh f o.width lasts ((in_order m (at m t h) (at m t i) (st.ordered h i low l o.high)).1 lasts) in
+            let step = extended_upto m laws channel q fits (at m t h) (at m t i) w s fh f o.width lasts (st.ordered h i low l o.high lasts) in
             upto_through m laws (off (get_or heads k₀ 0) (k₀ % 6 + 1) s) (off h w s) (off i w s) n₀ nh ni up step
 
-    -- the head of one stream moves on
-    module _ (k₀ : ℕ) (lt : k₀ < 36) (h' : ℕ) (on : get_or heads k₀ 0 ≤ h') where
-      -- the offers that it passes
-      abbrev Passes : ℕ → ℕ → ℕ → Type 0
-      Passes i w r = (get_or heads k₀ 0 ≤ i) × (i < h') × ((at m t i).last ≡ k₀ / 6 + 1) × (w ≡ k₀ % 6 + 1) × (r ≡ s)
-
-      -- only these are newly done
-      pub ahead_grows : (i w r : ℕ) → O i w r → Ahead m book grid channel q t a b (set heads k₀ h') s i w r → A i w r ⊎ Passes i w r
+    -- the head of one stream moves on, past its offer
+    module _ (k₀ : ℕ) (lt : k₀ < 36) (h' : ℕ) (on : get_or heads k₀ 0 < h')
+        (skipped : (i : ℕ) → get_or heads k₀ 0 + 1 ≤ i → i < h' → (at m t i).last ≡ k₀ / 6 + 1 → ⊥) where
+      -- only its offer is newly done
+      pub ahead_grows : (i w r : ℕ) → O i w r → Ahead m book grid channel q t a b (set heads k₀ h') s i w r →
+          A i w r ⊎ ((i ≡ get_or heads k₀ 0) × (w ≡ k₀ % 6 + 1) × (r ≡ s))
       ahead_grows i w r o (inl h) = inl (inl h)
       ahead_grows i w r o (inr (e, h)) =
           let f = st.fit i o.low o.high in
@@ -270,21 +275,34 @@ module _ {V : Type 0} (m : Measure V) {reach : ℕ → V → Type 0} (laws : Law
           let kk = (l - 1) * 6 + (w - 1) in
           let ew : kk % 6 + 1 ≡ w = omega (arith, f.last.0, f.last.1, o.width.0, o.width.1) in
           let el : kk / 6 + 1 ≡ l = omega (arith, f.last.0, f.last.1, o.width.0, o.width.1) in
-          go kk ew el refl h (cases_eq kk k₀)
+          go kk ew el h (cases_eq kk k₀)
         where
-          three : (kk : ℕ) → kk ≡ k₀ → kk % 6 + 1 ≡ w → kk / 6 + 1 ≡ (at m t i).last → kk ≡ ((at m t i).last - 1) * 6 + (w - 1) → i < h' → (i < get_or heads k₀ 0) ⊎ (get_or heads k₀ 0 ≤ i) → A i w r ⊎ Passes i w r
-          three kk ek ew el is h (inl before) = inl (inr (e, subst (λ (z : ℕ). i < get_or heads z 0) (sym ek ∙ is) before))
-          three kk ek ew el is h (inr after) = inr (after, h, sym el ∙ ap (λ (z : ℕ). z / 6 + 1) ek, sym ew ∙ ap (λ (z : ℕ). z % 6 + 1) ek, e)
+          i₀ : ℕ
+          i₀ = get_or heads k₀ 0
 
-          go : (kk : ℕ) → kk % 6 + 1 ≡ w → kk / 6 + 1 ≡ (at m t i).last → kk ≡ ((at m t i).last - 1) * 6 + (w - 1) → i < get_or (set heads k₀ h') (((at m t i).last - 1) * 6 + (w - 1)) 0 → (kk ≡ k₀) ⊎ (kk ≢ k₀) →
-              A i w r ⊎ Passes i w r
-          go kk ew el ek h c =
+          three : (kk : ℕ) → kk ≡ k₀ → kk % 6 + 1 ≡ w → kk / 6 + 1 ≡ (at m t i).last → (i < get_or heads k₀ 0) ⊎ (get_or heads k₀ 0 ≤ i) → (i ≡ get_or heads k₀ 0) ⊎ (i ≢ get_or heads k₀ 0) → i < h' →
+              (i < get_or heads kk 0) ⊎ ((i ≡ get_or heads k₀ 0) × (w ≡ k₀ % 6 + 1) × (r ≡ s))
+          three kk ek ew el (inl before) c h = inl (subst (λ (z : ℕ). i < get_or heads z 0) (sym ek) before)
+          three kk ek ew el (inr after) (inl is) h = inr (is, sym ew ∙ ap (λ (z : ℕ). z % 6 + 1) ek, e)
+          three kk ek ew el (inr after) (inr not) h = absurd (skipped i (further (cases_lt (get_or heads k₀ 0) i)) h (sym el ∙ ap (λ (z : ℕ). z / 6 + 1) ek))
+            where
+              further : (get_or heads k₀ 0 < i) ⊎ (i ≤ get_or heads k₀ 0) → get_or heads k₀ 0 + 1 ≤ i
+              further (inl l) = omega arith
+              further (inr l) = absurd (not (omega arith))
+
+          lift : (kk : ℕ) → kk ≡ ((at m t i).last - 1) * 6 + (w - 1) → (i < get_or heads kk 0) ⊎ ((i ≡ get_or heads k₀ 0) × (w ≡ k₀ % 6 + 1) × (r ≡ s)) → A i w r ⊎ ((i ≡ get_or heads k₀ 0) × (w ≡ k₀ % 6 + 1) × (r ≡ s))
+          lift kk ek (inl before) = inl (inr (e, subst (λ (z : ℕ). i < get_or heads z 0) ek before))
+          lift kk ek (inr here) = inr here
+
+          go : (kk : ℕ) → kk % 6 + 1 ≡ w → kk / 6 + 1 ≡ (at m t i).last → i < get_or (set heads k₀ h') (((at m t i).last - 1) * 6 + (w - 1)) 0 → (kk ≡ k₀) ⊎ (kk ≢ k₀) →
+              A i w r ⊎ ((i ≡ get_or heads k₀ 0) × (w ≡ k₀ % 6 + 1) × (r ≡ s))
+          go kk ew el h c =
+              let ek : kk ≡ ((at m t i).last - 1) * 6 + (w - 1) = omega arith in
               let h₁ : i < get_or (set heads k₀ h') kk 0 = subst (λ (z : ℕ). i < get_or (set heads k₀ h') z 0) (sym ek) h in
               elim c [
                 | inl is ↦ let e₁ : get_or (set heads k₀ h') kk 0 ≡ h' = ap (λ (z : ℕ). get_or (set heads k₀ h') z 0) is ∙ get_or-set_same heads k₀ h' 0 (omega arith) in
-                    three kk is ew el ek (omega arith) (cases_lt i (get_or heads k₀ 0))
-                | inr not ↦ let e₁ : get_or (set heads k₀ h') kk 0 ≡ get_or heads kk 0 = get_or-set_other heads k₀ kk h' 0 not in
-                    inl (inr (e, subst (λ (z : ℕ). i < get_or heads z 0) ek (omega arith)))
+                    lift kk ek (three kk is ew el (cases_lt i (get_or heads k₀ 0)) (cases_eq i (get_or heads k₀ 0)) (omega arith))
+                | inr not ↦ let e₁ : get_or (set heads k₀ h') kk 0 ≡ get_or heads kk 0 = get_or-set_other heads k₀ kk h' 0 not in lift kk ek (inl (omega arith))
               ]
 
       -- what was done stays done

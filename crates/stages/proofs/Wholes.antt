@@ -16,7 +16,7 @@ use Rattle.stages.specs.Table.{rows, blank, slot, at, Made}
 use Rattle.stages.specs.Stage.{at_stage, Stage, AheadOf, Onward}
 use Rattle.stages.specs.Openings.{Begins, Opening}
 use Rattle.stages.specs.Chain.{cut, Chain, Whole}
-use Rattle.stages.proofs.Cuts.{last_or}
+use Rattle.stages.proofs.Sift.{last_or}
 use Rattle.stages.proofs.Heads.{read_front}
 use Rattle.stages.proofs.Places.{rows_length}
 use Rattle.stages.proofs.Openings.{firsts_count, opening_stage}

@@ -1,5 +1,3 @@
-pub mod Laid
-pub mod Runs
 pub mod Table
 pub mod Stage
 pub mod Openings

@@ -7,9 +7,7 @@ use Rattle.pricing.specs.Allocations.{Book}
 use Rattle.pricing.specs.Measures.{Measure}
 use Rattle.frontier.specs.declared.records.State.{State}
 use Rattle.frontier.specs.States.{Kept, first, kept, KeptRow}
-use Rattle.frontier.specs.Orders.{kept_upto}
-use Rattle.stages.specs.Laid.{Step}
-use Rattle.stages.specs.Table.{rows, slot, at, Made}
+use Rattle.stages.specs.Table.{Step, rows, slot, at, upto, Made}
 
 -- a plan, and how many of its wires are laid
 pub record Course : Type 0 where
@@ -32,13 +30,13 @@ module _ {V : Type 0} (m : Measure V) (reach : ℕ → V → Type 0) (book : Boo
     pub power : s.power ≤ j * 480000
     pub near : reach j s.delay
 
-  -- the places from a on and before b hold the kept states of the stage, in order
+  -- the places from a on and before b hold the kept states of the stage, those of one last space in order
   pub record Stage (w : Course) (t : List (State V)) (a b : ℕ) : Type 0 where
     pub low : a ≤ b
     pub high : b ≤ length t
     pub row : KeptRow m book (first w.stage w.plan) (rows t a b)
     pub fits : (i : ℕ) → a ≤ i → i < b → Fits w.plan.channel w.stage (at m t i)
-    pub ordered : (i k : ℕ) → a ≤ i → i < k → k < b → kept_upto m (at m t i) (at m t k) ≡ true
+    pub ordered : (i k : ℕ) → a ≤ i → i < k → k < b → (at m t i).last ≡ (at m t k).last → upto m (at m t i) (at m t k) ≡ true
 
   -- the next wire is q
   pub record AheadOf (w : Course) (grid : Grid) (channel : ℕ) (q : Wire) (t : List (State V)) (a b : ℕ) : Type 0 where

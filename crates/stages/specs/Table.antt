@@ -1,18 +1,30 @@
 -- The state table of a solve, the order in which a stage's states stand, what is offered to the next stage, and what of
 -- it a stage that is being built holds. Assumes nothing.
-use Rattle.std.specs.Prelude.{◌≡◌, ℕ, ◌+◌, ◌-◌, ◌*◌, ◌/◌, ◌%◌, ◌<◌, ◌≤◌, Bool, true, false, cond, ◌&&◌, ◌||◌, ◌⊎◌, ◌↔◌, List, map, length, get_or, take, Some, None, Option, ◌≢◌, nat_lt, slice_index, slice_index_or, slice_range, slice_set}
+use Rattle.std.specs.Prelude.{◌≡◌, ℕ, ◌+◌, ◌-◌, ◌*◌, ◌/◌, ◌%◌, ◌<◌, ◌≤◌, Bool, true, false, cond, ◌&&◌, ◌||◌, ◌⊎◌, ◌↔◌, List, map, length, get_or, take, Some, None, Option, ◌==◌, ◌≢◌, nat_lt, slice_index, slice_index_or, slice_range, slice_set}
 use Rattle.drawing.specs.declared.words.Grid.{Grid}
 use Rattle.drawing.specs.declared.words.Wire.{Wire}
 use Rattle.drawing.specs.Plans.{within_limits}
-use Rattle.pricing.specs.Allocations.{Book, is_step_of}
+use Rattle.pricing.specs.Allocations.{Laid, Book, is_step_of}
 use Rattle.pricing.specs.Measures.{Measure}
 use Rattle.frontier.specs.declared.records.State.{State}
 use Rattle.frontier.specs.Lists.{◌∈◌, Fresh, each, undominated}
 use Rattle.frontier.specs.States.{Kept, kept_of, state_below}
 use Rattle.frontier.specs.Stages.{extended, may_follow, extensions}
-use Rattle.frontier.specs.Orders.{blank_state, upto, kept_upto}
-use Rattle.stages.specs.declared.offers.Added.{Added}
-use Rattle.stages.specs.Laid.{Step, AllAdded}
+
+-- the wire q of width w between the spaces l and r
+abbrev pub laid_as : Wire → ℕ → ℕ → ℕ → Laid
+laid_as q l w r = record { wire = q; left = l; width = w; right = r }
+
+-- a number from 1 to 6
+abbrev pub Step : ℕ → Type 0
+Step s = (1 ≤ s) × (s ≤ 6)
+
+-- a wire that can be laid
+pub record Laying (q : Wire) (l w r : ℕ) : Type 0 where
+  pub fits : within_limits q ≡ true
+  pub left : Step l
+  pub width : Step w
+  pub right : Step r
 
 -- the state that the code holds of what counts x, where the last wire has the width w and the state at i is extended
 abbrev pub stated : {V : Type 0} → Kept V → ℕ → ℕ → State V
@@ -22,7 +34,7 @@ stated x w i = record { last = x.last; used = x.used; power = x.power; delay = x
 abbrev pub rows : {V : Type 0} → List (State V) → ℕ → ℕ → List (Kept V)
 rows t a b = map kept_of (slice_range t a b)
 
--- the first place from i on and before b whose last space is l, or b: what lies between is of other last spaces
+-- the first place from i on and before b whose last space is l, or b
 pub record Skipped {V : Type 0} (t : List (State V)) (i b l r : ℕ) : Type 0 where
   pub low : i ≤ r
   pub high : r ≤ b
@@ -37,31 +49,10 @@ pub record Opened {V : Type 0} (book : Book) (grid : Grid) (t : List (State V)) 
   pub lawful : h < b → (is_step_of grid.widths (k % 6 + 1) ≡ true) × (book (k / 6 + 1) (k % 6 + 1) s ≡ true)
   pub none : (i : ℕ) (d : State V) → a ≤ i → i < h → (get_or t i d).last ≡ k / 6 + 1 → is_step_of grid.widths (k % 6 + 1) ≡ true → book (k / 6 + 1) (k % 6 + 1) s ≢ true
 
--- where the stream k of the space s begins: where its last space does, or at b if no offer of it is lawful
-abbrev pub first_head : Book → Grid → List ℕ → ℕ → ℕ → ℕ → ℕ
-first_head book grid cuts b s k =
-    cond (is_step_of grid.widths (k % 6 + 1) && (book (k / 6 + 1) (k % 6 + 1) s && nat_lt (slice_index cuts (k / 6)) (slice_index cuts (k / 6 + 1)))) (slice_index cuts (k / 6)) b
-
--- the place after i before c, or b
-abbrev pub next_head : ℕ → ℕ → ℕ → ℕ
-next_head i c b = cond (nat_lt (i + 1) c) (i + 1) b
-
 -- a place, if there is one, is below n
 abbrev pub Inside : Option ℕ → ℕ → Type 0
 Inside None n = Unit {0}
 Inside (Some k) n = k < n
-
--- the rank of a stream, if there is one; else the largest number
-abbrev pub best_rank : List ℕ → Option ℕ → ℕ
-best_rank ranks None = 4294967295
-best_rank ranks (Some k) = slice_index ranks k
-
--- the head of stream k has moved on, or stays
-pub record Settled (heads heads' : List ℕ) (k b : ℕ) : Type 0 where
-  pub to : ℕ
-  pub is : heads' ≡ slice_set heads k to
-  pub on : get_or heads k 0 ≤ to
-  pub high : to ≤ b
 
 -- the head of stream k has moved on
 pub record Moved (heads heads' : List ℕ) (k b : ℕ) : Type 0 where
@@ -73,7 +64,7 @@ pub record Moved (heads heads' : List ℕ) (k b : ℕ) : Type 0 where
 module _ {V : Type 0} (m : Measure V) where
   -- what stands past the end of a table
   abbrev pub blank : State V
-  blank = blank_state m.empty
+  blank = record { last = 0; used = 0; power = 0; delay = m.empty; width = 0; from = 0 }
 
   -- the state at a place
   abbrev pub slot : List (State V) → ℕ → State V
@@ -83,6 +74,10 @@ module _ {V : Type 0} (m : Measure V) where
   abbrev pub at : List (State V) → ℕ → Kept V
   at t i = kept_of (slice_index_or t i blank)
 
+  -- the order of a stage: by power, then used width, then delay
+  abbrev pub upto : Kept V → Kept V → Bool
+  upto x y = nat_lt x.power y.power || (x.power == y.power && (nat_lt x.used y.used || (x.used == y.used && m.below x.delay y.delay)))
+
   -- what the states of a stage keep that has a wire to come
   pub record Fit (reach : ℕ → V → Type 0) (channel : ℕ) (s : Kept V) : Type 0 where
     pub last : Step s.last
@@ -90,10 +85,10 @@ module _ {V : Type 0} (m : Measure V) where
     pub power : s.power ≤ 11520000
     pub near : (k : ℕ) × (k ≤ 23) × reach k s.delay
 
-  -- the states of a stage at the places from a on and before b, in order
+  -- the states of a stage at the places from a on and before b, those of one last space in order
   pub record Standing (reach : ℕ → V → Type 0) (channel : ℕ) (t : List (State V)) (a b : ℕ) : Type 0 where
     pub fit : (i : ℕ) → a ≤ i → i < b → Fit reach channel (at t i)
-    pub ordered : (i k : ℕ) → a ≤ i → i < k → k < b → kept_upto m (at t i) (at t k) ≡ true
+    pub ordered : (i k : ℕ) → a ≤ i → i < k → k < b → (at t i).last ≡ (at t k).last → upto (at t i) (at t k) ≡ true
 
   -- the head h of stream k
   pub record Head (t : List (State V)) (a b k h : ℕ) : Type 0 where
@@ -105,24 +100,15 @@ module _ {V : Type 0} (m : Measure V) where
   abbrev pub head_offer : Wire → List (State V) → List ℕ → ℕ → ℕ → Kept V
   head_offer q t heads s k = extended m q (at t (slice_index heads k)) (k % 6 + 1) s
 
-  -- the power that the head of stream k offers, or more than any power where the stream is at its end
-  abbrev pub rank : Wire → List (State V) → ℕ → List ℕ → ℕ → ℕ → ℕ
-  rank q t b heads s k = cond (nat_lt (slice_index heads k) b) (head_offer q t heads s k).power 4294967295
-
-  -- the ranks of all streams
-  abbrev pub Ranked : Wire → List (State V) → ℕ → List ℕ → ℕ → List ℕ → Type 0
-  Ranked q t b heads s ranks = (k : ℕ) → k < 36 → slice_index ranks k ≡ rank q t b heads s k
-
   -- of the first n streams, the one whose head comes first
   abbrev pub Least : Wire → List (State V) → ℕ → List ℕ → ℕ → ℕ → Option ℕ → Type 0
   Least q t b heads s n None = (k : ℕ) → k < n → b ≤ slice_index heads k
-  Least q t b heads s n (Some r) = (r < n) × (slice_index heads r < b) × ((k : ℕ) → k < n → slice_index heads k < b → upto m (head_offer q t heads s r) (head_offer q t heads s k) ≡ true)
+  Least q t b heads s n (Some r) = (r < n) × (slice_index heads r < b) × ((k : ℕ) → k < n → slice_index heads k < b → upto (head_offer q t heads s r) (head_offer q t heads s k) ≡ true)
 
   -- what it takes to read the heads of the streams
-  pub record Ready (reach : ℕ → V → Type 0) (q : Wire) (t : List (State V)) (b : ℕ) (heads : List ℕ) (s : ℕ) (added : List Added) : Type 0 where
+  pub record Ready (reach : ℕ → V → Type 0) (q : Wire) (t : List (State V)) (b : ℕ) (heads : List ℕ) (s : ℕ) : Type 0 where
     pub fits : within_limits q ≡ true
     pub space : Step s
-    pub all_added : AllAdded q s 36 added
     pub high : b ≤ length t
     pub fit : (k : ℕ) → k < 36 → slice_index heads k < b → Fit reach 300 (at (take b t) (slice_index heads k)) × ((at (take b t) (slice_index heads k)).last ≡ k / 6 + 1)
 
@@ -131,29 +117,19 @@ module _ {V : Type 0} (m : Measure V) where
   Beaten t b end x true = (k : ℕ) × (b ≤ k) × (k < end) × (state_below m (at t k) x ≡ true)
   Beaten t b end x false = (k : ℕ) → b ≤ k → k < end → state_below m (at t k) x ≢ true
 
-  -- whether the state at a place, if there is one, has a delay not above v
-  abbrev pub behind : List (State V) → Option ℕ → V → Bool
-  behind t None v = false
-  behind t (Some k) v = m.below (at t k).delay v
-
-  -- the place of the lesser delay: the one at hand, if its delay is not above v, and else the place end
+  -- the place of the lesser delay: of the state at a place, if there is one, and of one at the place end
   abbrev pub lesser : List (State V) → ℕ → Option ℕ → V → Option ℕ
-  lesser t end o v = cond (behind t o v) o (Some end)
+  lesser t end None v = Some end
+  lesser t end (Some k) v = cond (m.below (at t k).delay v) (Some k) (Some end)
 
   -- with a state noted, at the used width u
   abbrev pub noted : List (State V) → ℕ → Option ℕ → ℕ → ℕ → V → Option ℕ
   noted t end o u used delay = cond (nat_lt u used) o (lesser t end o delay)
 
-  -- whether a used width is above the channel, or the least delay there is not above a delay
-  abbrev pub passed : List (State V) → List (Option ℕ) → ℕ → ℕ → V → Bool
-  passed t least channel u v = nat_lt channel u || behind t (slice_index_or least u None) v
-
-  -- the first place from i on and before c that is not passed, with a wire behind it that is so wide and adds the delay v, or c
-  pub record FirstOpen (t : List (State V)) (least : List (Option ℕ)) (channel wide : ℕ) (v : V) (i c r : ℕ) : Type 0 where
-    pub low : i ≤ r
-    pub high : r ≤ c
-    pub before : (k : ℕ) → i ≤ k → k < r → passed t least channel ((at t k).used + wide) (m.joined (at t k).delay v) ≡ true
-    pub open_one : r < c → passed t least channel ((at t r).used + wide) (m.joined (at t r).delay v) ≡ false
+  -- whether the state at a place, if there is one, has a delay not above v
+  abbrev pub behind : List (State V) → Option ℕ → V → Bool
+  behind t None v = false
+  behind t (Some k) v = m.below (at t k).delay v
 
   -- the place of the least delay of the states of space s, at the places b up to end, whose used width is at most u
   abbrev pub LeastPlace : List (State V) → ℕ → ℕ → ℕ → ℕ → Option ℕ → Type 0
@@ -206,8 +182,8 @@ module _ {V : Type 0} (m : Measure V) where
       pub covered : (i w r : ℕ) → Offered i w r → Done i w r → (k : ℕ) × (b ≤ k) × (k < end) × (state_below m (at t' k) (offer i w r) ≡ true)
       pub fresh : (k k' : ℕ) → b ≤ k → k < k' → k' < end → at t' k ≢ at t' k'
       pub lasts : (k : ℕ) → b ≤ k → k < end → (at t' k).last ≤ s
-      pub later : (k : ℕ) → b ≤ k → k < end → (at t' k).last ≡ s → (i w : ℕ) → Offered i w s → (Done i w s → ⊥) → upto m (at t' k) (offer i w s) ≡ true
-      pub ordered : (k k' : ℕ) → b ≤ k → k < k' → k' < end → kept_upto m (at t' k) (at t' k') ≡ true
+      pub later : (k : ℕ) → b ≤ k → k < end → (at t' k).last ≡ s → (i w : ℕ) → Offered i w s → (Done i w s → ⊥) → upto (at t' k) (offer i w s) ≡ true
+      pub ordered : (k k' : ℕ) → b ≤ k → k < k' → k' < end → ((at t' k).last ≤ (at t' k').last) × ((at t' k).last ≡ (at t' k').last → upto (at t' k) (at t' k') ≡ true)
 
     -- the spaces before s are done
     abbrev pub Before : ℕ → ℕ → ℕ → ℕ → Type 0
@@ -232,7 +208,7 @@ module _ {V : Type 0} (m : Measure V) where
       pub made : (k : ℕ) → b ≤ k → k < end → Made (slot t' k)
       pub exactly : (s : Kept V) → (s ∈ rows t' b end) ↔ (s ∈ undominated (state_below m) all_offers)
       pub fresh : Fresh (rows t' b end)
-      pub ordered : (k k' : ℕ) → b ≤ k → k < k' → k' < end → kept_upto m (at t' k) (at t' k') ≡ true
+      pub ordered : (k k' : ℕ) → b ≤ k → k < k' → k' < end → (at t' k).last ≡ (at t' k').last → upto (at t' k) (at t' k') ≡ true
 
     -- the states that the new stage keeps outnumber the room
     abbrev pub Outnumber : ℕ → Type 0

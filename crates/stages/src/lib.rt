@@ -4,7 +4,6 @@
 mod delays;
 mod merge;
 mod offers;
-mod runs;
 pub mod stages;
 mod streams;
 

@@ -8,9 +8,9 @@ ghost use Rattle.stages.specs.Table.{stated};
 ghost use Rattle.stages.specs.Openings.{Opening, Begun};
 ghost use Rattle.stages.specs.Chain.{drawn, Ended};
 
-use crate::merge::next_row;
+use crate::merge::{next_row, put};
 use drawing::{Drawing, Grid, Wire};
-use frontier::{State, insert};
+use frontier::State;
 use measures::DelayMeasure;
 use pricing::in_grid;
 use rules::RuleBook;
@@ -20,12 +20,12 @@ fn first_state<M: DelayMeasure>(measure: &M, space: u8) -> State<M::Value>
     ensures { result ≡ stated (start (meaning M.DelayMeasure measure.now) space) 0 0 }
 {
     State {
-        from: 0,
-        power: 0,
-        used: space as u32,
-        delay: M::empty_value(),
         last: space,
+        used: space as u32,
+        power: 0,
+        delay: M::empty_value(),
         width: 0,
+        from: 0,
     }
 }
 
@@ -51,7 +51,7 @@ fn first_space<M: DelayMeasure>(
     if end >= table.len() {
         return None;
     }
-    insert(measure, table, 0, end, first_state(measure, space));
+    put(table, end, first_state(measure, space));
     Some(end + 1)
 }
 

@@ -1,112 +1,108 @@
 //! The streams of a new last space. Stream k has the states of last space k / 6 + 1, each with the wire of width k % 6 + 1 behind it;
 //! its head is the place of the first of them that is not taken yet.
-ghost use Rattle.std.specs.Prelude.{◌≡◌, ℕ, ◌+◌, ◌%◌, ◌<◌, take, slice_index};
+ghost use Rattle.std.specs.Prelude.{◌≡◌, ℕ, ◌+◌, ◌%◌, ◌<◌, ◌≤◌, length, take, slice_index};
 ghost use Rattle.pricing.specs.Measures.{meaning};
-ghost use Rattle.stages.specs.Table.{Inside, stated, first_head, next_head, head_offer, Ranked, best_rank, Least, Ready};
+ghost use Rattle.stages.specs.Table.{stated, Skipped, Opened, head_offer, Least, Ready};
 
-use crate::offers::{Added, extend};
+use crate::offers::{extend, is_upto};
 use drawing::{Grid, Wire};
-use frontier::{Record, State};
+use frontier::State;
 use measures::DelayMeasure;
 use pricing::in_grid;
 use rules::RuleBook;
 
-// Where the stream k of a new last space begins: where its last space does, or at the end if no offer of it is lawful.
-fn open_head<B: RuleBook>(
+// The first place from i on and before `stop` whose last space is the one asked for, or `stop`.
+pub(crate) fn skip<V: Copy>(table: &[State<V>], i: usize, stop: usize, last: u8) -> usize
+    requires low { i ≤ stop }
+    requires high { stop ≤ length table.now }
+    ensures { Skipped table.now i stop last result }
+{
+    for k in i..stop {
+        if table[k].last == last {
+            return k;
+        }
+    }
+    stop
+}
+
+// Where the stream k of a new last space begins: at the first state of its last space, or at the end if no offer of it is lawful.
+fn open_head<V: Copy, B: RuleBook>(
     book: &B,
     grid: Grid,
-    cuts: &[usize; 7],
+    table: &[State<V>],
+    begin: usize,
     stop: usize,
     space: u8,
     k: usize,
 ) -> usize
-    requires { k < 36 }
-    ensures { result ≡ first_head (B.RuleBook.admits book.now) grid cuts.now stop space k }
+    requires low { begin ≤ stop }
+    requires high { stop ≤ length table.now }
+    requires stream { k < 36 }
+    ensures { Opened (B.RuleBook.admits book.now) grid table.now begin stop space k result }
 {
-    let last = k / 6;
+    let last = (k / 6) as u8 + 1;
     let width = (k % 6) as u8 + 1;
-    if in_grid(grid.widths, width)
-        && book.allows(last as u8 + 1, width, space)
-        && cuts[last] < cuts[last + 1]
-    {
-        cuts[last]
+    if in_grid(grid.widths, width) && book.allows(last, width, space) {
+        skip(table, begin, stop, last)
     } else {
         stop
     }
 }
 
 // Where the streams of a new last space begin.
-pub(crate) fn open_heads<B: RuleBook>(
+pub(crate) fn open_heads<V: Copy, B: RuleBook>(
     book: &B,
     grid: Grid,
-    cuts: &[usize; 7],
+    table: &[State<V>],
+    begin: usize,
     stop: usize,
     space: u8,
 ) -> [usize; 36]
-    ensures { (k : ℕ) → k < 36 → slice_index result k ≡ first_head (B.RuleBook.admits book.now) grid cuts.now stop space k }
+    requires low { begin ≤ stop }
+    requires high { stop ≤ length table.now }
+    ensures { (k : ℕ) → k < 36 → Opened (B.RuleBook.admits book.now) grid table.now begin stop space k (slice_index result k) }
 {
     let mut heads = [stop; 36];
     for k in 0..36 {
-        heads[k] = open_head(book, grid, cuts, stop, space, k);
+        heads[k] = open_head(book, grid, table, begin, stop, space, k);
     }
     heads
-}
-
-// The place after i before `to`, or `stop`.
-pub(crate) fn next_place(i: usize, to: usize, stop: usize) -> usize
-    requires { i < stop }
-    ensures { result ≡ next_head i to stop }
-{
-    if i + 1 < to { i + 1 } else { stop }
 }
 
 // What the head of stream k offers.
 pub(crate) fn head_state<M: DelayMeasure>(
     measure: &M,
-    wire: &Wire,
-    added: &[Added; 36],
+    wire: Wire,
     table: &[State<M::Value>],
     stop: usize,
     heads: &[usize; 36],
     space: u8,
     k: usize,
 ) -> State<M::Value>
-    requires ready { Ready (meaning M.DelayMeasure measure.now) (M.DelayMeasure.reach measure.now) wire.now table.now stop heads.now space added.now }
+    requires ready { Ready (meaning M.DelayMeasure measure.now) (M.DelayMeasure.reach measure.now) wire table.now stop heads.now space }
     requires stream { k < 36 }
     requires inside { slice_index heads.now k < stop }
-    ensures { result ≡ stated (head_offer (meaning M.DelayMeasure measure.now) wire.now (take stop table.now) heads.now space k) (k % 6 + 1) (slice_index heads.now k) }
+    ensures { result ≡ stated (head_offer (meaning M.DelayMeasure measure.now) wire (take stop table.now) heads.now space k) (k % 6 + 1) (slice_index heads.now k) }
 {
     let from = heads[k];
-    let more = added[k];
-    extend(
-        measure,
-        table[from],
-        from,
-        more,
-        wire.t,
-        (k % 6) as u8 + 1,
-        space,
-    )
+    extend(measure, wire, table[from], from, (k % 6) as u8 + 1, space)
 }
 
 // The better of the best head so far and the head of stream k.
 fn better<M: DelayMeasure>(
     measure: &M,
-    wire: &Wire,
-    added: &[Added; 36],
+    wire: Wire,
     table: &[State<M::Value>],
     stop: usize,
     heads: &[usize; 36],
-    ranks: &[u32; 36],
     space: u8,
     best: Option<usize>,
     k: usize,
 ) -> Option<usize>
-    requires ready { Ready (meaning M.DelayMeasure measure.now) (M.DelayMeasure.reach measure.now) wire.now table.now stop heads.now space added.now }
-    requires ranked { Ranked (meaning M.DelayMeasure measure.now) wire.now (take stop table.now) stop heads.now space ranks.now }
+    requires ready { Ready (meaning M.DelayMeasure measure.now) (M.DelayMeasure.reach measure.now) wire table.now stop heads.now space }
     requires stream { k < 36 }
-    requires least { Least (meaning M.DelayMeasure measure.now) wire.now (take stop table.now) stop heads.now space k best }
-    ensures { Least (meaning M.DelayMeasure measure.now) wire.now (take stop table.now) stop heads.now space (k + 1) result }
+    requires least { Least (meaning M.DelayMeasure measure.now) wire (take stop table.now) stop heads.now space k best }
+    ensures { Least (meaning M.DelayMeasure measure.now) wire (take stop table.now) stop heads.now space (k + 1) result }
 {
     if heads[k] >= stop {
         return best;
@@ -114,12 +110,9 @@ fn better<M: DelayMeasure>(
     match best {
         None => Some(k),
         Some(o) => {
-            if ranks[k] < ranks[o] {
-                return Some(k);
-            }
-            let x = head_state(measure, wire, added, table, stop, heads, space, o);
-            let y = head_state(measure, wire, added, table, stop, heads, space, k);
-            if x.is_upto(measure, &y) {
+            let x = head_state(measure, wire, table, stop, heads, space, o);
+            let y = head_state(measure, wire, table, stop, heads, space, k);
+            if is_upto(measure, x, y) {
                 Some(o)
             } else {
                 Some(k)
@@ -128,41 +121,21 @@ fn better<M: DelayMeasure>(
     }
 }
 
-// The rank of a stream, if there is one; else the largest.
-fn rank_of(ranks: &[u32; 36], best: Option<usize>) -> u32
-    requires { Inside best 36 }
-    ensures { result ≡ best_rank ranks.now best }
-{
-    match best {
-        None => u32::MAX,
-        Some(o) => ranks[o],
-    }
-}
-
-// The stream whose head comes first, or None where every stream is at its end. Only a stream of no larger rank is looked at.
+// The stream whose head comes first, or None where every stream is at its end.
 pub(crate) fn least_head<M: DelayMeasure>(
     measure: &M,
-    wire: &Wire,
-    added: &[Added; 36],
+    wire: Wire,
     table: &[State<M::Value>],
     stop: usize,
     heads: &[usize; 36],
-    ranks: &[u32; 36],
     space: u8,
 ) -> Option<usize>
-    requires ready { Ready (meaning M.DelayMeasure measure.now) (M.DelayMeasure.reach measure.now) wire.now table.now stop heads.now space added.now }
-    requires ranked { Ranked (meaning M.DelayMeasure measure.now) wire.now (take stop table.now) stop heads.now space ranks.now }
-    ensures { Least (meaning M.DelayMeasure measure.now) wire.now (take stop table.now) stop heads.now space 36 result }
+    requires { Ready (meaning M.DelayMeasure measure.now) (M.DelayMeasure.reach measure.now) wire table.now stop heads.now space }
+    ensures { Least (meaning M.DelayMeasure measure.now) wire (take stop table.now) stop heads.now space 36 result }
 {
     let mut best = None;
-    let mut least = u32::MAX;
     for k in 0..36 {
-        if ranks[k] <= least {
-            best = better(
-                measure, wire, added, table, stop, heads, ranks, space, best, k,
-            );
-            least = rank_of(ranks, best);
-        }
+        best = better(measure, wire, table, stop, heads, space, best, k);
     }
     best
 }

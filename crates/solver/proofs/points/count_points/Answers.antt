@@ -2,8 +2,7 @@
 use Rattle.std.proofs.Common.{◌≡◌, ◌+◌, ◌<◌, length, get_or, Some, None, ap, subst, arith}
 use Rattle.pricing.specs.Measures.{meaning}
 use Rattle.frontier.specs.declared.records.State.{State}
-use Rattle.frontier.specs.Orders.{blank_state}
-use Rattle.solver.specs.Front.{row_at, points_in, Known, front, Heads}
+use Rattle.solver.specs.Front.{blank_state, row_at, points_in, Known, front, Heads}
 use Rattle.solver.proofs.Bests.{reads, next_none, next_known, next_fewer, front_short}
 use Rattle.solver.proofs.Merges.{heads_start, heads_later}
 use Rattle.solver.proofs.points.count_points.Goals as goal

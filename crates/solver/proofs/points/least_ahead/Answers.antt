@@ -2,13 +2,12 @@
 use Rattle.std.proofs.Common.{◌≡◌, ℕ, ◌+◌, ◌<◌, ◌≤◌, length, sym, ap, ◌∙◌, subst, arith}
 use Rattle.pricing.specs.Measures.{meaning}
 use Rattle.frontier.specs.declared.records.State.{State}
-use Rattle.frontier.specs.Orders.{blank_state}
 use Rattle.frontier.proofs.Members.{never_both}
-use Rattle.solver.specs.Front.{row_at, ahead, LeastAhead}
+use Rattle.solver.specs.Front.{blank_state, row_at, ahead, LeastAhead}
 use Rattle.solver.proofs.Widths.{is_true}
 use Rattle.solver.proofs.Bests.{reads, fails, read_ahead, read_earlier, least_start, least_stays, least_changes, least_ends}
 use Rattle.solver.proofs.points.least_ahead.Goals as goal
-use Rattle.solver.proofs.points.least_ahead.Goals.{then-is_ahead+then-not-is_upto, then-is_ahead+else-not-is_upto, else-is_ahead}
+use Rattle.solver.proofs.points.least_ahead.Goals.{then-is_ahead+then-not-comes_before, then-is_ahead+else-not-comes_before, else-is_ahead}
 
 pub loop-i-init : goal.loop-i-init
 loop-i-init g c =
@@ -35,13 +34,13 @@ loop-i-preserved g c =
     let is = c.is_ahead.ensures ∙ read_ahead m e rows o i _ here in
     let F : ℕ → Type 0 = λ z. LeastAhead m e rows o from (i + 1) z in
     elim c.if-is_ahead.branch [
-      | then-is_ahead+then-not-is_upto w ↦
-          let order = w.is_upto.ensures ∙ read_earlier m e rows best i _ _ _ _ there here in
+      | then-is_ahead+then-not-comes_before w ↦
+          let order = w.comes_before.ensures ∙ read_earlier m e rows best i _ _ _ _ there here in
           subst F (sym w.best-is)
-          (least_changes m laws e rows c.requires.reached o from i best here inv (is_true is w.if-is_ahead.true) (fails order w.if-not-is_upto.true))
-      | then-is_ahead+else-not-is_upto w ↦
-          let order = w.is_upto.ensures ∙ read_earlier m e rows best i _ _ _ _ there here in
-          subst F (sym w.best-is) (least_stays m laws e rows c.requires.reached o from i best here inv (λ t. is_true order w.if-not-is_upto.false))
+          (least_changes m laws e rows c.requires.reached o from i best here inv (is_true is w.if-is_ahead.true) (fails order w.if-not-comes_before.true))
+      | then-is_ahead+else-not-comes_before w ↦
+          let order = w.comes_before.ensures ∙ read_earlier m e rows best i _ _ _ _ there here in
+          subst F (sym w.best-is) (least_stays m laws e rows c.requires.reached o from i best here inv (λ t. is_true order w.if-not-comes_before.false))
       | else-is_ahead w ↦
           subst F (sym w.best-is)
           (least_stays m laws e rows c.requires.reached o from i best here inv

@@ -6,7 +6,7 @@ use Rattle.solver.proofs.Bests.{fails, read_earlier}
 use Rattle.solver.proofs.Merges.{head_new, run_empty, run_first, run_stays, run_changes, heads_set}
 use Rattle.solver.proofs.Widths.{is_true}
 use Rattle.solver.proofs.points.next_row.Goals as goal
-use Rattle.solver.proofs.points.next_row.Goals.{then-head-end+then-best-n, then-head-end+else-best-n+then-not-is_upto, then-head-end+else-best-n+else-not-is_upto, else-head-end}
+use Rattle.solver.proofs.points.next_row.Goals.{then-head-end+then-best-n, then-head-end+else-best-n+then-not-comes_before, then-head-end+else-best-n+else-not-comes_before, else-head-end}
 
 pub first_ahead-head-requires : goal.first_ahead-head-requires
 first_ahead-head-requires g c =
@@ -35,20 +35,20 @@ loop-k-preserved g c =
         | then-head-end+then-best-n w ↦
             subst F (sym w.best-is) (run_first m laws e rows c.requires.reached o cuts c.requires.runs k six (get_or c.loop-k.heads k 0) old h first best so_far w.least_ahead-pick.result
             w.least_ahead-pick.ensures w.if-best-n.true)
-        | then-head-end+else-best-n+then-not-is_upto w ↦
+        | then-head-end+else-best-n+then-not-comes_before w ↦
             let there : best < length rows = let a = so_far.within in let b = w.if-best-n.false in omega arith in
             let pick = w.least_ahead-pick.result in
             let here : pick < length rows = let a = w.least_ahead-pick.ensures.high in omega arith in
-            let order = w.is_upto.ensures ∙ read_earlier m e rows best pick _ _ _ _ there here in
+            let order = w.comes_before.ensures ∙ read_earlier m e rows best pick _ _ _ _ there here in
             subst F (sym w.best-is) (run_changes m laws e rows c.requires.reached o cuts c.requires.runs k six (get_or c.loop-k.heads k 0) old h first best so_far w.least_ahead-pick.result
-            w.least_ahead-pick.ensures there (fails order w.if-not-is_upto.true))
-        | then-head-end+else-best-n+else-not-is_upto w ↦
+            w.least_ahead-pick.ensures there (fails order w.if-not-comes_before.true))
+        | then-head-end+else-best-n+else-not-comes_before w ↦
             let there : best < length rows = let a = so_far.within in let b = w.if-best-n.false in omega arith in
             let pick = w.least_ahead-pick.result in
             let here : pick < length rows = let a = w.least_ahead-pick.ensures.high in omega arith in
-            let order = w.is_upto.ensures ∙ read_earlier m e rows best pick _ _ _ _ there here in
+            let order = w.comes_before.ensures ∙ read_earlier m e rows best pick _ _ _ _ there here in
             subst F (sym w.best-is) (run_stays m laws e rows c.requires.reached o cuts c.requires.runs k six (get_or c.loop-k.heads k 0) old h first best so_far w.least_ahead-pick.result
-            w.least_ahead-pick.ensures there (is_true order w.if-not-is_upto.false))
+            w.least_ahead-pick.ensures there (is_true order w.if-not-comes_before.false))
         | else-head-end w ↦
             subst F (sym w.best-is) (run_empty m laws e rows c.requires.reached o cuts c.requires.runs k six (get_or c.loop-k.heads k 0) old h first best so_far w.if-head-end.false)
       ],
@@ -68,22 +68,6 @@ least_ahead-pick-requires g c =
       tied = record { some = some; inside = runs.inside (k + 1) (omega arith); here = first.here some; sorted = λ i j a b h. runs.sorted k i j six (omega arith) b h };
     }
 
--- the row picked is a row
-in_rows : {n m k : ℕ} → k < m → m ≤ n → k < n
-in_rows a b = omega arith
-
-pub offset_bounds-rows-pick : goal.offset_bounds-rows-pick
-offset_bounds-rows-pick g c = let a = c.least_ahead-pick.ensures.high in let b = c.requires.runs.inside (c.loop-k.k + 1) (let h = c.loop-k-test.true in omega arith) in omega arith
-
-pub bounds-rows-pick : goal.bounds-rows-pick
-bounds-rows-pick g c = in_rows c.least_ahead-pick.ensures.high (c.requires.runs.inside (c.loop-k.k + 1) (let h = c.loop-k-test.true in omega arith))
-
-pub bounds-rows-pick-else-best-n : goal.bounds-rows-pick-else-best-n
-bounds-rows-pick-else-best-n g c = in_rows c.least_ahead-pick.ensures.high (c.requires.runs.inside (c.loop-k.k + 1) (let h = c.loop-k-test.true in omega arith))
-
-pub offset_bounds-rows-pick-else-best-n : goal.offset_bounds-rows-pick-else-best-n
-offset_bounds-rows-pick-else-best-n g c = let a = c.least_ahead-pick.ensures.high in let b = c.requires.runs.inside (c.loop-k.k + 1) (let h = c.loop-k-test.true in omega arith) in omega arith
-
 pub returns : goal.returns
 returns g c =
     let m = meaning g.M.DelayMeasure c.args.measure.now in
@@ -94,15 +78,8 @@ returns g c =
     let end : get_or cuts c.loop-k.k 0 ≡ length rows = ap (λ (z : ℕ). get_or cuts z 0) done ∙ c.requires.runs.ends in
     record { next = subst (λ (z : ℕ). Best m e rows c.args.after z c.loop-k.best) end c.loop-k.invariant.1; gone = c.loop-k.invariant.0 }
 
-pub bounds-rows-pick-else-best-n-2 : goal.bounds-rows-pick-else-best-n-2
-bounds-rows-pick-else-best-n-2 g c =
-    let six : c.loop-k.k < 6 = c.loop-k-test.true in
-    let end = c.requires.runs.inside (c.loop-k.k + 1) (omega arith) in
-    let high = c.least_ahead-pick.ensures.high in
-    omega arith
-
-pub bounds-rows-pick-else-best-n-3 : goal.bounds-rows-pick-else-best-n-3
-bounds-rows-pick-else-best-n-3 g c =
+pub offset_bounds-rows-pick : goal.offset_bounds-rows-pick
+offset_bounds-rows-pick g c =
     let six : c.loop-k.k < 6 = c.loop-k-test.true in
     let end = c.requires.runs.inside (c.loop-k.k + 1) (omega arith) in
     let high = c.least_ahead-pick.ensures.high in

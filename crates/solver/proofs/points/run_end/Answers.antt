@@ -1,8 +1,7 @@
 -- The first row of a larger last space, and all that follow.
 use Rattle.std.proofs.Common.{◌<◌, length, ap, arith}
 use Rattle.frontier.specs.declared.records.State.{State}
-use Rattle.frontier.specs.Orders.{blank_state}
-use Rattle.solver.specs.Front.{row_at}
+use Rattle.solver.specs.Front.{blank_state, row_at}
 use Rattle.solver.proofs.Bests.{reads}
 use Rattle.solver.proofs.points.run_end.Goals as goal
 

@@ -1,8 +1,7 @@
 -- The turn of the space stands, and the streams grow shorter.
 use Rattle.std.proofs.Common.{◌≡◌, ◌-◌, length, take, sum_by}
 use Rattle.pricing.specs.Measures.{meaning}
-use Rattle.stages.specs.Runs.{Runs}
-use Rattle.stages.specs.Table.{Ranked, Leasts, Task, Turn}
+use Rattle.stages.specs.Table.{Leasts, Task, Turn}
 use Rattle.stages.proofs.merge.fill_space.Given as goal
 
 abbrev pub invariant-loop-k : goal.invariant-loop-k
@@ -13,9 +12,6 @@ invariant-loop-k g l =
     × Turn (meaning g.M.DelayMeasure l.measure) (g.B.RuleBook.admits l.book) l.grid l.channel l.wire (take l.stop l.table) l.begin l.stop l.space l.heads l.table l.end
     × (length l.least ≡ 301)
     × Leasts (meaning g.M.DelayMeasure l.measure) l.table l.stop l.end l.space l.least
-    × Runs l.table l.begin l.stop 7 l.cuts
-    × (length l.ranks ≡ 36)
-    × Ranked (meaning g.M.DelayMeasure l.measure) l.wire (take l.stop l.table) l.stop l.heads l.space l.ranks
 
 abbrev pub decreases-loop-k : goal.decreases-loop-k
 decreases-loop-k g l = sum_by (λ h. l.stop - h) l.heads

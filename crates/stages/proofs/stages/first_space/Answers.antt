@@ -1,9 +1,8 @@
 -- The space is passed over, without room, or written.
-use Rattle.std.proofs.Common.{sym, ap, ◌∙◌, arith}
+use Rattle.std.proofs.Common.{set, sym, ap, ◌∙◌, arith}
 use Rattle.std.proofs.lemmas.Bool.{both_ways}
 use Rattle.pricing.specs.Allocations.{is_step_of}
 use Rattle.pricing.specs.Measures.{meaning}
-use Rattle.frontier.specs.Orders.{state_upto, put_in_order}
 use Rattle.stages.proofs.Openings.{opening_pass, opening_put, opening_full}
 use Rattle.stages.proofs.stages.first_space.Goals as goal
 
@@ -29,11 +28,6 @@ returns-then-end-table g c =
 pub returns : goal.returns
 returns g c =
     let m = meaning g.M.DelayMeasure c.args.measure.now in
-    let t = c.args.table.now in
-    let end = c.args.end in
-    opening_put m c.args.grid c.args.channel c.args.space t end c.requires
-    (sym c.if-not-in_grid.ensures) (omega (arith, c.if-space-channel.false)) c.if-end-table.false c.insert.new.list
-    (c.insert.ensures ∙ ap (put_in_order (state_upto m) t 0 end) c.first_state.ensures)
-
-pub insert-requires : goal.insert-requires
-insert-requires g c = record { low = omega arith; room = c.if-end-table.false }
+    opening_put m c.args.grid c.args.channel c.args.space c.args.table.now c.args.end c.requires
+    (sym c.if-not-in_grid.ensures) (omega (arith, c.if-space-channel.false)) c.if-end-table.false c.put.new.table
+    (c.put.ensures ∙ ap (set c.args.table.now c.args.end) c.first_state.ensures)

@@ -1,7 +1,7 @@
 -- The streams before k are opened.
 use Rattle.std.proofs.Common.{◌≡◌, ℕ, ◌<◌, length, get_or}
-use Rattle.stages.specs.Table.{first_head}
+use Rattle.stages.specs.Table.{Opened}
 use Rattle.stages.proofs.streams.open_heads.Given as goal
 
 abbrev pub invariant-loop-k : goal.invariant-loop-k
-invariant-loop-k g l = (length l.heads ≡ 36) × ((k : ℕ) → k < l.k → get_or l.heads k 0 ≡ first_head (g.B.RuleBook.admits l.book) l.grid l.cuts l.stop l.space k)
+invariant-loop-k g l = (length l.heads ≡ 36) × ((k : ℕ) → k < l.k → Opened (g.B.RuleBook.admits l.book) l.grid l.table l.begin l.stop l.space k (get_or l.heads k 0))
