@@ -30,7 +30,10 @@ impl<P: DelayMeasure, Q: DelayMeasure> DelayMeasure for EitherMeasure<P, Q> {
 
     const EMPTY: EitherValue<P::Value, Q::Value> = EitherValue::Empty;
 
-    ghost lawful = { either_lawful (record { empty = P.empty; made = P.made; joined = P.joined; below = P.below; reach = P.reach }) (record { empty = Q.empty; made = Q.made; joined = Q.joined; below = Q.below; reach = Q.reach }) P.lawful Q.lawful };
+    ghost lawful = { either_lawful
+        (record { empty = P.empty; made = P.made; joined = P.joined; below = P.below; reach = P.reach })
+        (record { empty = Q.empty; made = Q.made; joined = Q.joined; below = Q.below; reach = Q.reach })
+        P.lawful Q.lawful };
 
     // The one empty value: `EMPTY`, written out, since nothing is known here of a constant of a generic impl.
     fn empty_value() -> EitherValue<P::Value, Q::Value> {
