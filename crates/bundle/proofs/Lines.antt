@@ -108,10 +108,3 @@ pub keep_full : {X : Type 0} (line turned : List X) (now : X) (r : ℕ) → r �
     → take 64 (set turned 63 now) ≡ drop (r + 1 - 64) (take r line ++ now ∷ [])
 keep_full line turned now r e l t =
     subst (λ (r : ℕ). take 64 (set turned 63 now) ≡ drop (r + 1 - 64) (take r line ++ now ∷ [])) (sym e) (full_line line turned now l t)
-
--- where a place is free
-pub keep_more : {X : Type 0} (line : List X) (now : X) (r : ℕ) → r < 64 → length line ≡ 64
-    → take (r + 1) (set line r now) ≡ drop (r + 1 - 64) (take r line ++ now ∷ [])
-keep_more line now r lt l =
-    let z : r + 1 - 64 ≡ 0 = omega arith in
-    take_more_set line r now (omega arith) ∙ ap (λ k. drop k (take r line ++ now ∷ [])) (sym z)

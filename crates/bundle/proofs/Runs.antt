@@ -15,7 +15,7 @@ use Rattle.bundle.specs.Laws.{AlwaysSound, UndoTakesBack, UndosThenRedos, Refuse
 use Rattle.bundle.proofs.Ends.{ended, but_last_push, last_push, length_but_last}
 use Rattle.bundle.proofs.Backs.{undo_accepted, redo_accepted, after_accepted, after_refused, after_undo, after_redo, undone_some, redo_undo, undo_redo}
 use Rattle.bundle.proofs.Steps.{not_none}
-use Rattle.bundle.proofs.Held.{after_push, carried, reply_none}
+use Rattle.bundle.proofs.Held.{after_push, accepted_is, reply_none}
 
 -- what a history keeps however it changes
 pub record Steady (h : History) : Type 0 where
@@ -148,7 +148,7 @@ opened_is_sound grid channel p e =
     let good = passed _ _ _ (given (first_reason (open_reasons grid channel)) (bare grid channel) p e) in
     let wide = passed _ _ _ good.1 in
     let fits = passed _ _ _ wide.1 in
-    subst Sound (carried (λ z. z) (first_reason (open_reasons grid channel)) (bare grid channel) p e).1
+    subst Sound (accepted_is (first_reason (open_reasons grid channel)) (bare grid channel) p e)
     (record { gridded = good.0; channelled = wide.0; few = omega arith; limited = refl; fitting = fits.0 })
 
 -- the reply to one more change

@@ -28,6 +28,10 @@ pub record StandsFor (v : View) (h : History) : Type 0 where
   pub back : v.earlier ≡ shown_back h h.reach
   pub on : v.later ≡ shown_on h (length h.undone)
 
+-- P holds of every history for which the view stands
+abbrev pub OfHistory : View → (History → Type 0) → Type 0
+OfHistory v P = (h : History) → StandsFor v h → P h
+
 -- a drawing to open with, and changes from there that lead to a history for which the view stands
 pub record LedTo (v : View) : Type 0 where
   pub opened : Plan

@@ -2,7 +2,7 @@
 use drawing::Edit;
 
 // A change of a bundle: an edit of its drawing, or a step back or forth in its history.
-#[derive(Clone, Copy)]
+#[derive(Debug, Clone, Copy, PartialEq, Eq, Hash)]
 pub enum Change {
     Make(Edit),
     Undo,

@@ -1,5 +1,4 @@
 pub mod Accepted
-pub mod Arrays
 pub mod Fits
 pub mod Lists
 pub mod Moves

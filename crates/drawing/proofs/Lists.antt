@@ -1,19 +1,15 @@
 -- What a test of every element says of the parts of a list and of its edits. Assumes nothing.
-use Rattle.std.proofs.Common.{◌≡◌, ℕ, suc, ◌<◌, Bool, true, false, ◌&&◌, List, [], ◌∷◌, ◌++◌, length, take, drop, set, sym, refl, ap, ◌∙◌}
+use Rattle.std.proofs.Common.{◌≡◌, ℕ, suc, ◌<◌, Bool, true, ◌&&◌, List, [], ◌∷◌, ◌++◌, length, take, drop, set, sym, refl, ap, ◌∙◌}
+use Rattle.std.proofs.Math.Bool.{and_assoc}
 use Rattle.std.specs.List.{insert, remove}
 use Rattle.std.proofs.lemmas.List.{set_split, take-append-drop}
 use Rattle.std.proofs.lemmas.Bool.{and_parts, and_from}
 use Rattle.drawing.specs.Lists.{all}
 
--- `and` may be grouped either way
-grouped : (a b c : Bool) → (a && (b && c)) ≡ ((a && b) && c)
-grouped true b c = refl
-grouped false b c = refl
-
 -- two lists in a row
 pub all_append : {X : Type 0} (f : X → Bool) (xs ys : List X) → all f (xs ++ ys) ≡ (all f xs && all f ys)
 all_append f [] ys = refl
-all_append f (x ∷ xs) ys = ap (λ z. f x && z) (all_append f xs ys) ∙ grouped (f x) (all f xs) (all f ys)
+all_append f (x ∷ xs) ys = ap (λ z. f x && z) (all_append f xs ys) ∙ sym (and_assoc (f x) (all f xs) (all f ys))
 
 -- the two parts of a list
 all_parts : {X : Type 0} (f : X → Bool) (n : ℕ) (xs : List X) → all f xs ≡ true → (all f (take n xs) ≡ true) × (all f (drop n xs) ≡ true)

@@ -1,15 +1,14 @@
 -- Small words on lists. Assumes nothing.
-use Rattle.std.specs.Prelude.{ℕ, ◌+◌, min, Bool, true, cond, ◌&&◌, List, [], ◌∷◌, Some, None, Option}
+use Rattle.std.specs.Prelude.{ℕ, ◌+◌, min, Bool, cond, List, [], ◌∷◌, Some, None, Option, filter}
+use Rattle.std.specs.List.{list_all}
 
 -- every element passes the test
 abbrev pub all : {X : Type 0} → (X → Bool) → List X → Bool
-all f [] = true
-all f (x ∷ xs) = f x && all f xs
+all = list_all
 
 -- the elements that pass the test, in their order
 abbrev pub keep : {X : Type 0} → (X → Bool) → List X → List X
-keep f [] = []
-keep f (x ∷ xs) = cond (f x) (x ∷ keep f xs) (keep f xs)
+keep = filter
 
 -- the place of the first `true`, counted from n
 abbrev pub first_from : ℕ → List Bool → Option ℕ

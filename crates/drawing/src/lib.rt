@@ -8,6 +8,6 @@ mod shift;
 pub mod words;
 
 pub use drawings::Drawing;
-pub use limits::{bad_channel, bad_grid, too_narrow};
+pub use limits::{MOST_WIRES, bad_channel, bad_grid, too_narrow};
 pub use refusals::Refusal;
 pub use words::{Edit, Grid, Wire};

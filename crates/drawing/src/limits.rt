@@ -5,11 +5,14 @@ ghost use Rattle.drawing.specs.Steps.{smallest};
 
 use crate::words::Grid;
 
+// How many wires a drawing has at the most.
+pub const MOST_WIRES: usize = 24;
+
 // The byte is no set of steps from 1 to 6.
 fn bad_byte(byte: u8) -> bool
     ensures { result ≡ bad_byte byte }
 {
-    byte == 0 || byte > 63
+    !(1..=63).contains(&byte)
 }
 
 // A byte of the grid is no set of steps from 1 to 6.
@@ -23,7 +26,7 @@ pub fn bad_grid(grid: Grid) -> bool
 pub fn bad_channel(channel: u32) -> bool
     ensures { result ≡ bad_channel channel }
 {
-    channel == 0 || channel > 300
+    !(1..=300).contains(&channel)
 }
 
 // The smallest step that the byte allows.

@@ -1,52 +1,52 @@
 // Why a call is refused.
-ghost use Rattle.std.specs.Prelude.{◌≡◌};
+ghost use Rattle.std.specs.Prelude.{◌≡◌, true, false, MatchResult};
 ghost use Rattle.drawing.specs.Numbers.{number_of};
 
 // Why a call is refused: each case has its number.
-#[derive(Clone, Copy, PartialEq, Eq)]
+#[derive(Debug, Clone, Copy, PartialEq, Eq, Hash)]
 pub enum Refusal {
     // The place is past the last wire, or for an insertion past the end.
-    PlaceBeyondEnd,
+    PlaceBeyondEnd = 11,
     // A number of the wire is above its limit.
-    NumberAboveLimit,
+    NumberAboveLimit = 12,
     // There are 24 wires already.
-    BundleFull,
+    BundleFull = 13,
     // A byte of the grid is no set of steps from 1 to 6.
-    BadGrid,
+    BadGrid = 14,
     // The channel is not from 1 to 300.
-    BadChannel,
+    BadChannel = 15,
     // The wires do not fit the channel at their least width.
-    TooNarrow,
+    TooNarrow = 16,
     // No edit is in reach of undo.
-    NothingToUndo,
+    NothingToUndo = 17,
     // There is no undone edit to make again.
-    NothingToRedo,
+    NothingToRedo = 18,
     // A solve of no wires.
-    NoWires,
+    NoWires = 19,
     // The widths are not one for each wire, or the spaces not one more.
-    WrongCount,
+    WrongCount = 21,
     // A width or a space is no step of the grid.
-    StepOutsideGrid,
+    StepOutsideGrid = 22,
     // The rule book bars a wire's left space, width and right space.
-    TripleBarred,
+    TripleBarred = 23,
     // The widths and spaces together are wider than the channel.
-    AboveChannel,
+    AboveChannel = 24,
     // The kept states of all stages outnumber the state slots.
-    TooFewStates,
+    TooFewStates = 31,
     // The curve has more points than the point table or the strip has room for.
-    TooFewPoints,
+    TooFewPoints = 32,
     // A text buffer is too short.
-    TextTooShort,
+    TextTooShort = 33,
     // No allocation is lawful.
-    NothingFits,
+    NothingFits = 41,
     // A field of a sheet is no number of 1 to 8 digits, or no run of rising digits 1 to 6, where one is due.
-    BadField,
+    BadField = 51,
     // A line of a sheet has the wrong count of fields, or lacks its line end.
-    BadLine,
+    BadLine = 52,
     // The first field of a line is no word that is due there, a due line is missing, or bytes follow the end line.
-    WordNotDue,
+    WordNotDue = 53,
     // The count of a sheet's end line is not the number of its wires.
-    WrongEndCount,
+    WrongEndCount = 54,
 }
 
 impl Refusal {
@@ -54,28 +54,22 @@ impl Refusal {
     pub fn number(self) -> u8
         ensures { result ≡ number_of self }
     {
-        match self {
-            Refusal::PlaceBeyondEnd => 11,
-            Refusal::NumberAboveLimit => 12,
-            Refusal::BundleFull => 13,
-            Refusal::BadGrid => 14,
-            Refusal::BadChannel => 15,
-            Refusal::TooNarrow => 16,
-            Refusal::NothingToUndo => 17,
-            Refusal::NothingToRedo => 18,
-            Refusal::NoWires => 19,
-            Refusal::WrongCount => 21,
-            Refusal::StepOutsideGrid => 22,
-            Refusal::TripleBarred => 23,
-            Refusal::AboveChannel => 24,
-            Refusal::TooFewStates => 31,
-            Refusal::TooFewPoints => 32,
-            Refusal::TextTooShort => 33,
-            Refusal::NothingFits => 41,
-            Refusal::BadField => 51,
-            Refusal::BadLine => 52,
-            Refusal::WordNotDue => 53,
-            Refusal::WrongEndCount => 54,
-        }
+        self as u8
     }
+}
+
+impl From<Refusal> for u8 {
+    ghost from_gives = { λ why r. r ≡ number_of why };
+
+    // The number by which the refusal is known.
+    fn from(why: Refusal) -> u8 {
+        why.number()
+    }
+}
+
+// Refuses where the test says yes.
+pub(crate) fn refuse_if(test: bool, why: Refusal) -> Result<(), Refusal>
+    ensures { MatchResult result (λ _. test ≡ false) (λ given. (test ≡ true) × (given ≡ why)) }
+{
+    if test { Err(why) } else { Ok(()) }
 }

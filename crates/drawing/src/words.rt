@@ -1,15 +1,12 @@
 // The words of a drawing: wires, grids and edits.
-ghost use Rattle.std.specs.Prelude.{◌≡◌};
+ghost use Rattle.std.specs.Prelude.{◌≡◌, nat_lt, zip, position};
 ghost use Rattle.drawing.specs.Plans.{first_excess};
 
-// The largest value of each of a wire's seven coefficients.
-const COEFFICIENT_LIMIT: u32 = 1000;
-
-// The largest deadline of a wire.
-const DEADLINE_LIMIT: u32 = 60_000_000;
+// The largest value of each of a wire's eight numbers, in their order: the seven coefficients, and the deadline.
+const LIMITS: [u32; 8] = [1000, 1000, 1000, 1000, 1000, 1000, 1000, 60_000_000];
 
 // A wire: seven coefficients of 0 to 1000, and a deadline t of 0 to 60,000,000.
-#[derive(Clone, Copy, PartialEq, Eq)]
+#[derive(Debug, Clone, Copy, Default, PartialEq, Eq, Hash)]
 pub struct Wire {
     pub a: u32,
     pub b: u32,
@@ -22,14 +19,14 @@ pub struct Wire {
 }
 
 // The steps that widths and spaces may take: bit 0 stands for step 1, up to bit 5 for step 6.
-#[derive(Clone, Copy, PartialEq, Eq)]
+#[derive(Debug, Clone, Copy, PartialEq, Eq, Hash)]
 pub struct Grid {
     pub widths: u8,
     pub spaces: u8,
 }
 
 // A change of a drawing; places count from 0, from left to right.
-#[derive(Clone, Copy)]
+#[derive(Debug, Clone, Copy, PartialEq, Eq, Hash)]
 pub enum Edit {
     Insert(usize, Wire),
     Remove(usize),
@@ -43,24 +40,19 @@ impl Wire {
     pub fn first_above_limit(&self) -> Option<usize>
         ensures { result ≡ first_excess self.now }
     {
-        if self.a > COEFFICIENT_LIMIT {
-            Some(0)
-        } else if self.b > COEFFICIENT_LIMIT {
-            Some(1)
-        } else if self.g > COEFFICIENT_LIMIT {
-            Some(2)
-        } else if self.d > COEFFICIENT_LIMIT {
-            Some(3)
-        } else if self.e > COEFFICIENT_LIMIT {
-            Some(4)
-        } else if self.k > COEFFICIENT_LIMIT {
-            Some(5)
-        } else if self.h > COEFFICIENT_LIMIT {
-            Some(6)
-        } else if self.t > DEADLINE_LIMIT {
-            Some(7)
-        } else {
-            None
-        }
+        let numbers = [
+            self.a, self.b, self.g, self.d, self.e, self.k, self.h, self.t,
+        ];
+        first_above(&numbers, &LIMITS)
     }
+}
+
+// The place, from 0, of the first number that is above the limit at its place.
+fn first_above(numbers: &[u32], limits: &[u32]) -> Option<usize>
+    ensures { result ≡ position (λ p. nat_lt p.1 p.0) (zip numbers.now limits.now) }
+{
+    numbers
+        .iter()
+        .zip(limits)
+        .position(|(number, limit)| *number > *limit)
 }

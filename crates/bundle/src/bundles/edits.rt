@@ -8,8 +8,9 @@ ghost use Rattle.drawing.specs.declared.words.Edit.TheVariants.{Insert, Remove, 
 
 use crate::bundles::Bundle;
 use crate::changes::Change;
-use crate::timeline::keep;
+use crate::timeline::{MOST_UNDOS, keep};
 use drawing::{Drawing, Edit, Grid, Refusal, Wire};
+use std::mem::swap;
 
 impl Bundle {
     // A bundle of no wires and no history, or the first of 14, 15 and 16.
@@ -27,7 +28,7 @@ impl Bundle {
     {
         Bundle {
             drawing,
-            timeline: [drawing; 64],
+            timeline: [drawing; MOST_UNDOS],
             reach: 0,
             undone: 0,
         }
@@ -86,13 +87,10 @@ impl Bundle {
         if self.reach == 0 {
             return Err(Refusal::NothingToUndo);
         }
-        let place = self.reach - 1;
-        let earlier = self.timeline[place];
-        let present = self.drawing;
-        self.timeline[place] = present;
-        self.drawing = earlier;
-        self.reach = place;
+        self.reach -= 1;
         self.undone += 1;
+        let timeline = &mut self.timeline;
+        swap(&mut self.drawing, &mut timeline[self.reach]);
         Ok(())
     }
 
@@ -103,26 +101,21 @@ impl Bundle {
         if self.undone == 0 {
             return Err(Refusal::NothingToRedo);
         }
-        let place = self.reach;
-        let later = self.timeline[place];
-        let present = self.drawing;
-        self.timeline[place] = present;
-        self.drawing = later;
-        self.reach = place + 1;
+        let timeline = &mut self.timeline;
+        swap(&mut self.drawing, &mut timeline[self.reach]);
+        self.reach += 1;
         self.undone -= 1;
         Ok(())
     }
 
-    // Makes an edit on a copy of the drawing, and if it is not refused keeps the drawing before it and takes the copy.
+    // Makes an edit of the drawing, and if it is not refused keeps the drawing before it.
     fn edit(&mut self, edit: Edit) -> Result<(), Refusal>
         ensures { Answers self.old self.new result (Make edit) }
     {
         let before = self.drawing;
-        let mut copy = before;
-        copy.edit(edit)?;
+        self.drawing.edit(edit)?;
         self.undone = 0;
         self.reach = keep(&mut self.timeline, self.reach, before);
-        self.drawing = copy;
         Ok(())
     }
 }

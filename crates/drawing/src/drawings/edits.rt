@@ -1,46 +1,27 @@
 // Opening and editing a drawing.
-ghost use Rattle.std.specs.Prelude.{◌≡◌, length};
+ghost use Rattle.std.specs.Prelude.{◌≡◌, ◌≤◌, length};
 ghost use Rattle.drawing.specs.Edits.{opened};
 ghost use Rattle.drawing.specs.Shown.{plan_of, planned, Edits};
 ghost use Rattle.drawing.specs.declared.words.Edit.TheVariants.{Insert, Remove, Replace, SetGrid, SetChannel};
 
 use crate::drawings::Drawing;
-use crate::limits::{bad_channel, bad_grid, too_narrow};
-use crate::refusals::Refusal;
+use crate::limits::{MOST_WIRES, bad_channel, bad_grid, too_narrow};
+use crate::refusals::{Refusal, refuse_if};
 use crate::shift::{put_in, take_out};
 use crate::words::{Edit, Grid, Wire};
-
-// How many wires a drawing has at the most.
-const MOST_WIRES: usize = 24;
 
 impl Drawing {
     // A drawing of no wires, or the first refusal.
     pub fn open(grid: Grid, channel: u32) -> Result<Drawing, Refusal>
         ensures { planned result ≡ opened grid channel }
     {
-        if bad_grid(grid) {
-            return Err(Refusal::BadGrid);
-        }
-        if bad_channel(channel) {
-            return Err(Refusal::BadChannel);
-        }
-        if too_narrow(grid, channel, 0) {
-            return Err(Refusal::TooNarrow);
-        }
-        let unused = Wire {
-            a: 0,
-            b: 0,
-            g: 0,
-            d: 0,
-            e: 0,
-            k: 0,
-            h: 0,
-            t: 0,
-        };
+        refuse_if(bad_grid(grid), Refusal::BadGrid)?;
+        refuse_if(bad_channel(channel), Refusal::BadChannel)?;
+        refuse_if(too_narrow(grid, channel, 0), Refusal::TooNarrow)?;
         Ok(Drawing {
             grid,
             channel,
-            wires: [unused; 24],
+            wires: [Wire::default(); MOST_WIRES],
             count: 0,
         })
     }
@@ -62,40 +43,29 @@ impl Drawing {
     pub fn insert(&mut self, place: usize, wire: Wire) -> Result<(), Refusal>
         ensures { Edits self.old self.new result (Insert place wire) }
     {
-        if place > self.count {
-            return Err(Refusal::PlaceBeyondEnd);
-        }
-        if wire.first_above_limit().is_some() {
-            return Err(Refusal::NumberAboveLimit);
-        }
-        if self.count >= MOST_WIRES {
-            return Err(Refusal::BundleFull);
-        }
-        if too_narrow(self.grid, self.channel, self.count + 1) {
-            return Err(Refusal::TooNarrow);
-        }
-        let count = self.count;
-        put_in(&mut self.wires, place, count, wire);
-        self.count = count + 1;
-        Ok(())
+        refuse_if(place > self.count, Refusal::PlaceBeyondEnd)?;
+        self.place_wire(place, wire)
     }
 
     // Adds a wire after the last.
     pub fn append(&mut self, wire: Wire) -> Result<(), Refusal>
         ensures { Edits self.old self.new result (Insert (length (plan_of self.old).wires) wire) }
     {
-        let count = self.count;
-        if wire.first_above_limit().is_some() {
-            return Err(Refusal::NumberAboveLimit);
-        }
-        if count >= MOST_WIRES {
-            return Err(Refusal::BundleFull);
-        }
-        if too_narrow(self.grid, self.channel, count + 1) {
-            return Err(Refusal::TooNarrow);
-        }
-        self.wires[count] = wire;
-        self.count = count + 1;
+        self.place_wire(self.count, wire)
+    }
+
+    // Inserts a wire at a place that is there.
+    fn place_wire(&mut self, place: usize, wire: Wire) -> Result<(), Refusal>
+        requires { place ≤ length (plan_of self.old).wires }
+        ensures { Edits self.old self.new result (Insert place wire) }
+    {
+        let above = wire.first_above_limit();
+        refuse_if(above.is_some(), Refusal::NumberAboveLimit)?;
+        refuse_if(self.count >= MOST_WIRES, Refusal::BundleFull)?;
+        let narrow = too_narrow(self.grid, self.channel, self.count + 1);
+        refuse_if(narrow, Refusal::TooNarrow)?;
+        put_in(&mut self.wires, place, self.count, wire);
+        self.count += 1;
         Ok(())
     }
 
@@ -103,12 +73,9 @@ impl Drawing {
     pub fn remove(&mut self, place: usize) -> Result<(), Refusal>
         ensures { Edits self.old self.new result (Remove place) }
     {
-        if place >= self.count {
-            return Err(Refusal::PlaceBeyondEnd);
-        }
-        let count = self.count;
-        take_out(&mut self.wires, place, count);
-        self.count = count - 1;
+        refuse_if(place >= self.count, Refusal::PlaceBeyondEnd)?;
+        take_out(&mut self.wires, place, self.count);
+        self.count -= 1;
         Ok(())
     }
 
@@ -116,12 +83,9 @@ impl Drawing {
     pub fn replace(&mut self, place: usize, wire: Wire) -> Result<(), Refusal>
         ensures { Edits self.old self.new result (Replace place wire) }
     {
-        if place >= self.count {
-            return Err(Refusal::PlaceBeyondEnd);
-        }
-        if wire.first_above_limit().is_some() {
-            return Err(Refusal::NumberAboveLimit);
-        }
+        refuse_if(place >= self.count, Refusal::PlaceBeyondEnd)?;
+        let above = wire.first_above_limit();
+        refuse_if(above.is_some(), Refusal::NumberAboveLimit)?;
         self.wires[place] = wire;
         Ok(())
     }
@@ -130,12 +94,9 @@ impl Drawing {
     pub fn set_grid(&mut self, grid: Grid) -> Result<(), Refusal>
         ensures { Edits self.old self.new result (SetGrid grid) }
     {
-        if bad_grid(grid) {
-            return Err(Refusal::BadGrid);
-        }
-        if too_narrow(grid, self.channel, self.count) {
-            return Err(Refusal::TooNarrow);
-        }
+        refuse_if(bad_grid(grid), Refusal::BadGrid)?;
+        let narrow = too_narrow(grid, self.channel, self.count);
+        refuse_if(narrow, Refusal::TooNarrow)?;
         self.grid = grid;
         Ok(())
     }
@@ -144,12 +105,9 @@ impl Drawing {
     pub fn set_channel(&mut self, channel: u32) -> Result<(), Refusal>
         ensures { Edits self.old self.new result (SetChannel channel) }
     {
-        if bad_channel(channel) {
-            return Err(Refusal::BadChannel);
-        }
-        if too_narrow(self.grid, channel, self.count) {
-            return Err(Refusal::TooNarrow);
-        }
+        refuse_if(bad_channel(channel), Refusal::BadChannel)?;
+        let narrow = too_narrow(self.grid, channel, self.count);
+        refuse_if(narrow, Refusal::TooNarrow)?;
         self.channel = channel;
         Ok(())
     }

@@ -24,7 +24,6 @@ impl Drawing {
     pub fn wires(&self) -> &[Wire]
         ensures { result.now ≡ (plan_of self.now).wires }
     {
-        let count = self.count;
-        &self.wires[0..count]
+        &self.wires[..self.count]
     }
 }
