@@ -1,4 +1,5 @@
-use rules::{EitherBook, OpenBook, PairBook, RuleBook};
+use either::{Either, Left, Right};
+use rules::{OpenBook, PairBook, RuleBook};
 
 // Barring a pair takes out the triples with that pair on the left, on the right or on both sides.
 #[test]
@@ -17,10 +18,10 @@ fn bars_on_either_side(rt: HostRuntime) {
 fn nests(rt: HostRuntime) {
     let mut pairs = PairBook::new();
     pairs.bar(3, 3);
-    let books: [EitherBook<OpenBook, EitherBook<PairBook, OpenBook>>; 3] = [
-        EitherBook::First(OpenBook),
-        EitherBook::Second(EitherBook::First(pairs)),
-        EitherBook::Second(EitherBook::Second(OpenBook)),
+    let books: [Either<OpenBook, Either<PairBook, OpenBook>>; 3] = [
+        Left(OpenBook),
+        Right(Left(pairs)),
+        Right(Right(OpenBook)),
     ];
     let second = books[1];
     assert!(rt; books[0].allows(3, 3, 2) && !books[1].allows(3, 3, 2) && books[2].allows(3, 3, 2));

@@ -1,12 +1,12 @@
+use either::{Either, Left, Right};
 use measures::{
-    DelayMeasure, EitherMeasure, EitherValue, Fields, Late, LateFirst, PrintableMeasure, Total,
-    Worst,
+    DelayMeasure, EitherValue, Fields, Late, LateFirst, PrintableMeasure, Total, Worst,
 };
 use std::test::Fail;
 
 // The join of two wires of delays 3 and 4, the first with the deadline 3 and the second with the deadline 2.
 fn two_wires<M: DelayMeasure>(m: &M) -> M::Value {
-    m.join(m.join(M::empty_value(), m.make(3, 3)), m.make(4, 2))
+    m.join(m.join(M::EMPTY, m.make(3, 3)), m.make(4, 2))
 }
 
 // One late wire with less delay is above none with more.
@@ -21,10 +21,10 @@ fn counts_late_wires(rt: HostRuntime) {
 // Measures of three kinds are handed on as values of one type, and kinds nest.
 #[test]
 fn nests(rt: HostRuntime) -> Result<(), Fail> {
-    let kinds: [EitherMeasure<Total, EitherMeasure<Worst, LateFirst>>; 3] = [
-        EitherMeasure::First(Total),
-        EitherMeasure::Second(EitherMeasure::First(Worst)),
-        EitherMeasure::Second(EitherMeasure::Second(LateFirst)),
+    let kinds: [Either<Total, Either<Worst, LateFirst>>; 3] = [
+        Left(Total),
+        Right(Left(Worst)),
+        Right(Right(LateFirst)),
     ];
     let total = kinds[0];
     let Fields::One(sum) = total.fields(two_wires(&total)) else {
@@ -43,7 +43,7 @@ fn nests(rt: HostRuntime) -> Result<(), Fail> {
 // A value as good as the empty one is the empty one.
 #[test]
 fn has_one_empty_value(rt: HostRuntime) -> Result<(), Fail> {
-    let m: EitherMeasure<Total, LateFirst> = EitherMeasure::Second(LateFirst);
+    let m: Either<Total, LateFirst> = Right(LateFirst);
     let EitherValue::Empty = m.make(0, 0) else {
         return Err(Fail::new("nothing late and no delay"));
     };

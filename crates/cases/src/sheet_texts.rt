@@ -1,15 +1,6 @@
 // Long inputs, made by repetition.
 use std::alloc::{AllocError, Global};
 
-// So many times the same text.
-pub(crate) fn repeated(heap: Global, text: &[u8], times: usize) -> Result<Vec<u8>, AllocError> {
-    let mut all = Vec::new(heap);
-    for _ in 0..times {
-        all.extend_from_slice(text)?;
-    }
-    Ok(all)
-}
-
 // A front, the same text so many times, and a back.
 pub(crate) fn between(
     heap: Global,
@@ -20,7 +11,7 @@ pub(crate) fn between(
 ) -> Result<Vec<u8>, AllocError> {
     let mut all = Vec::new(heap);
     all.extend_from_slice(front)?;
-    all.extend_from_slice(repeated(heap, text, times)?.as_slice())?;
+    all.extend_from_slice(text.repeat(heap, times)?.as_slice())?;
     all.extend_from_slice(back)?;
     Ok(all)
 }

@@ -1,5 +1,8 @@
 -- Where a record belongs among others, and what it is to put it there. Assumes nothing.
-use Rattle.std.proofs.Common.{◌≡◌, ℕ, zero, suc, ◌+◌, ◌-◌, ◌<◌, ◌≤◌, Bool, true, false, cond, ◌⊎◌, List, [], ◌∷◌, ◌++◌, reverse, length, get_or, take, drop, set, replicate, sym, refl, ap, ◌∙◌, inl, inr, le_of_suc-le-suc, not-suc-le-zero, add-one, arith}
+use Rattle.std.specs.List.{prefix_len}
+use Rattle.std.proofs.lemmas.List.{length-reverse}
+use Rattle.std.proofs.lemmas.List.Sums.{prefix_len-le-length}
+use Rattle.std.proofs.Common.{not, ◌≡◌, ℕ, zero, suc, ◌+◌, ◌-◌, ◌<◌, ◌≤◌, Bool, true, false, cond, ◌⊎◌, List, [], ◌∷◌, ◌++◌, reverse, length, get_or, take, drop, set, replicate, sym, refl, ap, ◌∙◌, inl, inr, le_of_suc-le-suc, not-suc-le-zero, add-one, arith}
 use mathlib.Core.List.{reverse-append}
 use borrow.Rule.Slice.PartMut.{put_mid}
 use Rattle.std.specs.List.{insert, between}
@@ -33,10 +36,23 @@ module _ {A : Type 0} where
       high_above order x (between a i xs) ≡ 0
   above_stop order x xs a i y lt high read up = above_at order x xs a i y lt high read ∙ ap (λ b. cond b 0 (high_above order x (between a (i - 1) xs) + 1)) up
 
-  -- the last record does not: it is one more
-  pub above_step : (order : A → A → Bool) (x : A) (xs : List A) (a i : ℕ) (y : A) → a < i → i ≤ length xs → y ≡ get_or xs (i - 1) y → order y x ≡ false →
-      high_above order x (between a i xs) ≡ high_above order x (between a (i - 1) xs) + 1
-  above_step order x xs a i y lt high read up = above_at order x xs a i y lt high read ∙ ap (λ b. cond b 0 (high_above order x (between a (i - 1) xs) + 1)) up
+  -- how many at the front do not come up to x is how long the front of such is
+  pub front_prefix : (order : A → A → Bool) (x : A) (ys : List A) → prefix_len (λ y. not (order y x)) ys ≡ front_above order x ys
+  front_prefix order x [] = refl
+  front_prefix order x (y ∷ ys) = go (front_prefix order x ys) (order y x)
+    where
+      go : prefix_len (λ z. not (order z x)) ys ≡ front_above order x ys
+          → (b : Bool) → cond (not b) (1 + prefix_len (λ z. not (order z x)) ys) 0 ≡ cond b 0 (front_above order x ys + 1)
+      go t true = refl
+      go t false = omega arith
+
+  -- no more stand above x than there are
+  pub above_most : (order : A → A → Bool) (x : A) (ys : List A) → high_above order x ys ≤ length ys
+  above_most order x ys =
+      let t = front_prefix order x (reverse ys) in
+      let m = prefix_len-le-length (λ y. not (order y x)) (reverse ys) in
+      let l = length-reverse ys in
+      omega arith
 
   -- x put at the end
   pub put_last : (xs : List A) (n : ℕ) (x : A) → n < length xs → set xs n x ≡ put_at xs n n x

@@ -2,8 +2,8 @@
 -- written so. Assumes nothing.
 use Rattle.std.specs.Prelude.{◌≡◌, ℕ, map}
 use Rattle.drawing.specs.Plans.{Plan, Sound}
-use Rattle.measures.specs.declared.either.EitherMeasure.{EitherMeasure}
-use Rattle.measures.specs.declared.either.EitherMeasure.TheVariants.{First, Second}
+use Rattle.either.specs.declared.Either.{Either}
+use Rattle.either.specs.declared.Either.TheVariants.{Left, Right}
 use Rattle.measures.specs.declared.measure.DelayMeasure.{Ghosts}
 use Rattle.measures.specs.declared.values.EitherValue.{EitherValue}
 use Rattle.measures.specs.declared.values.EitherValue.TheVariants.{Empty}
@@ -36,23 +36,23 @@ pub record Written {V W : Type 0} (m : Measure V) (n : Measure W) (norm : V → 
   pub count : kept_states n book d ≡ kept_states m book d
 
 -- what a measure that is one of two kinds means
-abbrev pub either_meaning : {P Q V W : Type 0} → Ghosts P V → Ghosts Q W → EitherMeasure P Q → Measure (EitherValue V W)
+abbrev pub either_meaning : {P Q V W : Type 0} → Ghosts P V → Ghosts Q W → Either P Q → Measure (EitherValue V W)
 either_meaning f s m = record { empty = Empty; made = either_made f s m; joined = either_joined f s m; below = either_below f s m }
 
 -- the computed curve is the curve by what a measure of two kinds means
 abbrev pub EitherCurve : {P Q V W : Type 0} → Ghosts P V → Ghosts Q W → Type 0
 EitherCurve {P} {Q} f s =
-    (m : EitherMeasure P Q) (book : Book) (d : Plan) → Sound d
+    (m : Either P Q) (book : Book) (d : Plan) → Sound d
     → IsCurve (either_meaning f s m) book d (curve (either_meaning f s m) book d)
 
 -- a measure of two kinds that is of the first shows what that one shows
 abbrev pub FirstWritten : {P Q V W : Type 0} → Ghosts P V → Ghosts Q W → Type 0
 FirstWritten {P} f s =
     (p : P) (book : Book) (d : Plan) → Sound d
-    → Written (meaning f p) (either_meaning f s (First p)) (from_first (f.below p) f.empty) book d
+    → Written (meaning f p) (either_meaning f s (Left p)) (from_first (f.below p) f.EMPTY) book d
 
 -- a measure of two kinds that is of the second shows what that one shows
 abbrev pub SecondWritten : {P Q V W : Type 0} → Ghosts P V → Ghosts Q W → Type 0
 SecondWritten {P} {Q} f s =
     (q : Q) (book : Book) (d : Plan) → Sound d
-    → Written (meaning s q) (either_meaning f s (Second q)) (from_second (s.below q) s.empty) book d
+    → Written (meaning s q) (either_meaning f s (Right q)) (from_second (s.below q) s.EMPTY) book d

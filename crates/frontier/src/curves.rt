@@ -6,15 +6,11 @@ use measures::DelayMeasure;
 
 // The computed curve has a point at or below the price of each lawful allocation, is made of such prices, has none at or below another,
 // and rises in power.
-pub fn curve_is_holds<M: DelayMeasure>() -> u8
+pub fn curve_is_holds<M: DelayMeasure>()
     ensures { Always M.DelayMeasure CurveIs }
-{
-    0
-}
+{}
 
 // Only one list is the curve.
-pub fn curve_is_one_holds<M: DelayMeasure>() -> u8
+pub fn curve_is_one_holds<M: DelayMeasure>()
     ensures { Always M.DelayMeasure CurveIsOne }
-{
-    0
-}
+{}

@@ -27,16 +27,12 @@ pub trait Record<M: DelayMeasure>: Copy {
 impl<M: DelayMeasure> Record<M> for State<M::Value> {
     ghost upto = { λ m. state_upto (meaning M.DelayMeasure m) };
 
-    ghost nothing = { blank_state M.DelayMeasure.empty };
+    ghost nothing = { blank_state M.DelayMeasure.EMPTY };
 
     fn is_upto(&self, measure: &M, other: &State<M::Value>) -> bool {
-        self.last < other.last
-            || (self.last == other.last
-                && (self.power < other.power
-                    || (self.power == other.power
-                        && (self.used < other.used
-                            || (self.used == other.used
-                                && measure.not_above(self.delay, other.delay))))))
+        let mine = (self.last, self.power, self.used);
+        let others = (other.last, other.power, other.used);
+        mine < others || (mine == others && measure.not_above(self.delay, other.delay))
     }
 
     fn blank() -> State<M::Value> {
@@ -44,7 +40,7 @@ impl<M: DelayMeasure> Record<M> for State<M::Value> {
             from: 0,
             power: 0,
             used: 0,
-            delay: M::empty_value(),
+            delay: M::EMPTY,
             last: 0,
             width: 0,
         }
@@ -55,7 +51,7 @@ impl<M: DelayMeasure> Record<M> for State<M::Value> {
 impl<M: DelayMeasure> Record<M> for Point<M::Value> {
     ghost upto = { λ m. point_upto (meaning M.DelayMeasure m) };
 
-    ghost nothing = { blank_point M.DelayMeasure.empty };
+    ghost nothing = { blank_point M.DelayMeasure.EMPTY };
 
     fn is_upto(&self, measure: &M, other: &Point<M::Value>) -> bool {
         self.power < other.power
@@ -65,36 +61,24 @@ impl<M: DelayMeasure> Record<M> for Point<M::Value> {
     fn blank() -> Point<M::Value> {
         Point {
             power: 0,
-            delay: M::empty_value(),
+            delay: M::EMPTY,
         }
     }
 }
 
-// How many records at the high end of the places from `from` on and before `to` stand above a new one, before the first that does not.
-// Inner: the solver's lists stand in parts of a table
-pub fn count_above<M: DelayMeasure, R: Record<M>>(
-    measure: &M,
-    list: &[R],
-    from: usize,
-    to: usize,
-    x: &R,
-) -> usize
-    requires low { from ≤ to }
-    requires high { to ≤ length list.now }
-    ensures counted { result ≡ high_above (R.Record.upto measure.now) x.now (between from to list.now) }
-    ensures within { result ≤ to }
+// How many records at the high end of a list stand above a new one, before the first that does not.
+pub fn count_above<M: DelayMeasure, R: Record<M>>(measure: &M, list: &[R], x: &R) -> usize
+    ensures counted { result ≡ high_above (R.Record.upto measure.now) x.now list.now }
+    ensures within { result ≤ length list.now }
 {
-    let mut i = to;
-    while from < i {
-        if list[i - 1].is_upto(measure, x) {
-            return to - i;
-        }
-        i -= 1;
-    }
-    to - from
+    list.iter()
+        .rev()
+        .take_while(|y| !y.is_upto(measure, x))
+        .count()
 }
 
 // Puts a record at a place of the first `end` places; those from there on move one place up, over the place `end`.
+// Kept beside the step by which a drawing takes a wire in: this one promises the whole slice, of which a drawing shows a front.
 // Inner: the solver's lists stand in parts of a table
 pub fn put<R: Copy>(list: &mut [R], place: usize, end: usize, x: R)
     requires within { place ≤ end }
@@ -120,7 +104,7 @@ pub fn insert<M: DelayMeasure, R: Record<M>>(
     requires room { to < length list.old }
     ensures { list.new ≡ put_in_order (R.Record.upto measure.now) list.old from to x }
 {
-    let above = count_above(measure, list, from, to, &x);
+    let above = count_above(measure, &list[from..to], &x);
     put(list, to - above, to, x);
 }
 
@@ -129,6 +113,7 @@ pub fn blank_all<M: DelayMeasure, R: Record<M>>(list: &mut [R])
     ensures { list.new ≡ replicate (length list.old) R.Record.nothing }
 {
     let nothing = R::blank();
+    // Kept: `fill` asks for a clone that cannot fail, of which nothing is known at a record that is only `Copy`.
     for x in list.iter_mut() {
         *x = nothing;
     }

@@ -6,8 +6,8 @@ use native.Mathlib.Omega.{arith}
 use borrow.Author.Tests.{clash}
 use Rattle.measures.specs.Laws.{Laws}
 use Rattle.measures.specs.declared.measure.DelayMeasure.{Ghosts}
-use Rattle.measures.specs.declared.either.EitherMeasure.{EitherMeasure}
-use Rattle.measures.specs.declared.either.EitherMeasure.TheVariants as kind
+use Rattle.either.specs.declared.Either.{Either}
+use Rattle.either.specs.declared.Either.TheVariants as kind
 use Rattle.measures.specs.declared.values.EitherValue.{EitherValue}
 use Rattle.measures.specs.declared.values.EitherValue.TheVariants.{Empty, First, Second}
 use Rattle.measures.specs.Values.{to_first, to_second, from_first, from_second}
@@ -46,21 +46,21 @@ forms {V} {W} empty made joined below reach none raw one l raw_none raw-one =
 
 -- each measure of a kind keeps the laws
 abbrev pub Lawful : {P V : Type 0} → Ghosts P V → Type 0
-Lawful {P} g = (p : P) → Laws g.empty (g.made p) (g.joined p) (g.below p) (g.reach p)
+Lawful {P} g = (p : P) → Laws g.EMPTY (g.made p) (g.joined p) (g.below p) (g.reach p)
 
 module _ {P Q V W : Type 0} (f : Ghosts P V) (s : Ghosts Q W) where
   -- a value of the first kind is read back as it was written
-  pub first_forms : Lawful f → (p : P) → Forms {W = EitherValue V W} f.empty (f.reach p) Empty (to_first f.empty) (from_first (f.below p) f.empty)
-  first_forms l p = forms f.empty (f.made p) (f.joined p) (f.below p) (f.reach p) Empty (to_first f.empty) First (l p) refl (λ v. refl)
+  pub first_forms : Lawful f → (p : P) → Forms {W = EitherValue V W} f.EMPTY (f.reach p) Empty (to_first f.EMPTY) (from_first (f.below p) f.EMPTY)
+  first_forms l p = forms f.EMPTY (f.made p) (f.joined p) (f.below p) (f.reach p) Empty (to_first f.EMPTY) First (l p) refl (λ v. refl)
 
   -- a value of the second kind is read back as it was written
-  pub second_forms : Lawful s → (q : Q) → Forms {W = EitherValue V W} s.empty (s.reach q) Empty (to_second s.empty) (from_second (s.below q) s.empty)
-  second_forms l q = forms s.empty (s.made q) (s.joined q) (s.below q) (s.reach q) Empty (to_second s.empty) Second (l q) refl (λ v. refl)
+  pub second_forms : Lawful s → (q : Q) → Forms {W = EitherValue V W} s.EMPTY (s.reach q) Empty (to_second s.EMPTY) (from_second (s.below q) s.EMPTY)
+  second_forms l q = forms s.EMPTY (s.made q) (s.joined q) (s.below q) (s.reach q) Empty (to_second s.EMPTY) Second (l q) refl (λ v. refl)
 
   -- whichever of the two is at hand
   pub either_lawful : Lawful f → Lawful s
-      → (m : EitherMeasure P Q) → Laws {V = EitherValue V W} Empty (either_made f s m) (either_joined f s m) (either_below f s m) (either_reach f s m)
-  either_lawful l o (kind.First p) =
-      carried f.empty (f.made p) (f.joined p) (f.below p) (f.reach p) Empty (to_first f.empty) (from_first (f.below p) f.empty) (l p) (first_forms l p)
-  either_lawful l o (kind.Second q) =
-      carried s.empty (s.made q) (s.joined q) (s.below q) (s.reach q) Empty (to_second s.empty) (from_second (s.below q) s.empty) (o q) (second_forms o q)
+      → (m : Either P Q) → Laws {V = EitherValue V W} Empty (either_made f s m) (either_joined f s m) (either_below f s m) (either_reach f s m)
+  either_lawful l o (kind.Left p) =
+      carried f.EMPTY (f.made p) (f.joined p) (f.below p) (f.reach p) Empty (to_first f.EMPTY) (from_first (f.below p) f.EMPTY) (l p) (first_forms l p)
+  either_lawful l o (kind.Right q) =
+      carried s.EMPTY (s.made q) (s.joined q) (s.below q) (s.reach q) Empty (to_second s.EMPTY) (from_second (s.below q) s.EMPTY) (o q) (second_forms o q)

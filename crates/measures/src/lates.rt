@@ -8,7 +8,7 @@ use crate::measure::DelayMeasure;
 use crate::printable::{Fields, PrintableMeasure};
 
 // How many wires have a delay above their deadline, and the sum of the delays of all.
-#[derive(Clone, Copy)]
+#[derive(Clone, Copy, Debug, PartialEq, Eq, PartialOrd, Ord)]
 pub struct Late {
     pub count: u32,
     pub sum: u32,
@@ -21,7 +21,7 @@ pub struct LateFirst;
 impl DelayMeasure for LateFirst {
     type Value = Late;
 
-    ghost empty = { none_late };
+    ghost EMPTY = { none_late };
 
     ghost made = { λ _. late_made };
 
@@ -35,15 +35,12 @@ impl DelayMeasure for LateFirst {
 
     ghost lawful = { Prim.search rules };
 
-    // None late, and no delay.
-    fn empty_value() -> Late {
-        Self::EMPTY
-    }
-
     // Late if the delay is above the deadline.
     fn make(&self, delay: u32, deadline: u32) -> Late {
-        let count = if delay > deadline { 1 } else { 0 };
-        Late { count, sum: delay }
+        Late {
+            count: u32::from(delay > deadline),
+            sum: delay,
+        }
     }
 
     // Both summed, and each sum stops on its own.
@@ -56,7 +53,7 @@ impl DelayMeasure for LateFirst {
 
     // By count, then by sum.
     fn not_above(&self, a: Late, b: Late) -> bool {
-        a.count < b.count || (a.count == b.count && a.sum <= b.sum)
+        a <= b
     }
 }
 

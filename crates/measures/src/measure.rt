@@ -8,7 +8,7 @@ pub trait DelayMeasure {
     type Value: Copy;
 
     // the value of no wire
-    ghost empty: { Self.Value };
+    ghost EMPTY: { Self.Value };
     // the value of one wire, by its delay and its deadline
     ghost made: { Self → ℕ → ℕ → Self.Value };
     // two values in one
@@ -20,10 +20,6 @@ pub trait DelayMeasure {
 
     // The value of no wire.
     const EMPTY: Self::Value;
-
-    // The value of no wire: `EMPTY`, of which generic code knows nothing but through this function.
-    fn empty_value() -> Self::Value
-        ensures { result ≡ empty };
 
     // The value of one wire.
     fn make(&self, delay: u32, deadline: u32) -> Self::Value
@@ -38,5 +34,5 @@ pub trait DelayMeasure {
         ensures { result ≡ below self.now a b };
 
     // what every measure keeps
-    ghost lawful: { (m : Self) → Laws empty (made m) (joined m) (below m) (reach m) };
+    ghost lawful: { (m : Self) → Laws EMPTY (made m) (joined m) (below m) (reach m) };
 }

@@ -14,7 +14,7 @@ pub struct Total;
 impl DelayMeasure for Total {
     type Value = u32;
 
-    ghost empty = { 0 };
+    ghost EMPTY = { 0 };
 
     ghost made = { λ _ d _. d };
 
@@ -27,11 +27,6 @@ impl DelayMeasure for Total {
     const EMPTY: u32 = 0;
 
     ghost lawful = { Prim.search rules };
-
-    // No delay.
-    fn empty_value() -> u32 {
-        Self::EMPTY
-    }
 
     // The wire's delay, whatever its deadline.
     fn make(&self, delay: u32, _deadline: u32) -> u32 {

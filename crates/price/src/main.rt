@@ -2,21 +2,19 @@
 // `late` as arguments.
 #![tactic(auto)]
 
-use quotes::quotes::quoted;
+use quotes::quotes::{READ, quoted};
 use std::env;
 use std::io::{Read, Write};
 
 fn main(rt: HostRuntime) -> anyhow::Result<()> {
     let heap = rt.alloc();
     let mut input = Vec::new(heap);
-    rt.stdin().take(4096).read_to_end(&mut input)?;
-    let mut args = Vec::new(heap);
+    rt.stdin().take(READ as u64).read_to_end(&mut input)?;
     // Arguments that are no text are as good as none: the answer says how to ask.
-    if let Ok(words) = env::args(&rt) {
-        for word in words.skip(1) {
-            args.push(word)?;
-        }
-    }
+    let args = match env::args(&rt) {
+        Ok(words) => words.skip(1).collect(heap)?,
+        Err(_) => Vec::new(heap),
+    };
     rt.stdout()
         .write_all(quoted(input.as_slice(), args.as_slice()).text())?;
     Ok(())

@@ -1,22 +1,21 @@
 -- What is known of an allocation that is not refused. Assumes nothing.
-use Rattle.std.proofs.Common.{◌≡◌, ℕ, ◌+◌, ◌<◌, Bool, true, false, not, ◌&&◌, List, [], ◌∷◌, length, get_or, Ok, Err, sym, refl, subst, arith}
-use Rattle.std.proofs.lemmas.Bool.{and_from, and_parts, eqb-true}
+use Rattle.std.proofs.Common.{◌≡◌, ℕ, Bool, true, false, not, ◌&&◌, List, [], ◌∷◌, Ok, Err, sym, refl, subst, arith}
+use Rattle.std.proofs.lemmas.Bool.{and_parts, eqb-true}
 use Rattle.drawing.specs.declared.drawings.Drawing.{Drawing}
 use Rattle.drawing.specs.declared.refusals.Refusal.{Refusal}
 use Rattle.drawing.specs.declared.refusals.Refusal.TheVariants.{WrongCount, StepOutsideGrid, TripleBarred, AboveChannel}
 use Rattle.drawing.specs.declared.words.Wire.{Wire}
 use Rattle.drawing.specs.Edits.{Reply, first_reason, unless_refused}
-use Rattle.drawing.specs.Plans.{Plan, Sound, within_limits}
+use Rattle.drawing.specs.Plans.{Plan, Sound}
 use Rattle.drawing.specs.Shown.{plan_of}
 use Rattle.drawing.proofs.Sounds.{sound_of}
-use Rattle.rules.specs.Steps.{step, three_steps}
+use Rattle.rules.specs.Steps.{step}
 use Rattle.pricing.specs.Allocations.{Allocation, Book, used_width, is_step_of, counted, in_grid, admitted, within_channel, lawful}
 use Rattle.pricing.specs.Measures.{Measure}
 use Rattle.pricing.specs.Prices.{price_of}
 use Rattle.pricing.specs.Ready.{Ready}
 use Rattle.pricing.specs.Replies.{price_reasons, priced}
-use Rattle.pricing.proofs.Lists.{all_at, all_since}
-use Rattle.pricing.proofs.Rests.{no_wire}
+use Rattle.pricing.proofs.Lists.{all_since}
 use Rattle.pricing.proofs.Steps.{step_from}
 
 -- a refusal is no acceptance
@@ -47,12 +46,11 @@ pub accepted : (book : Book) (p : Plan) (x : Allocation) → first_reason (price
 accepted book p x ok =
     none_refuses (counted p x) (in_grid p x) (admitted book p x) (within_channel p x) WrongCount StepOutsideGrid TripleBarred AboveChannel ok
 
--- a lawful allocation of a sound plan can be summed over
-pub ready : (book : Book) (p : Plan) (x : Allocation) → Sound p → lawful book p x ≡ true → Ready p.wires x
-ready book p x s ok =
-    let parts = and_parts (counted p x) (in_grid p x && (admitted book p x && within_channel p x)) ok in
-    let count = and_parts _ _ parts.0 in
-    let grid = and_parts _ _ (and_parts (in_grid p x) (admitted book p x && within_channel p x) parts.1).0 in
+-- an allocation of a sound plan that is counted and in the grid can be summed over
+pub ready_in_grid : (p : Plan) (x : Allocation) → Sound p → counted p x ≡ true → in_grid p x ≡ true → Ready p.wires x
+ready_in_grid p x s is_counted is_in_grid =
+    let count = and_parts _ _ is_counted in
+    let grid = and_parts _ _ is_in_grid in
     record {
       few = s.few;
       limited = s.limited;
@@ -61,6 +59,13 @@ ready book p x s ok =
       width_steps = all_since (is_step_of p.grid.widths) step (step_from p.grid.widths) x.widths grid.0;
       space_steps = all_since (is_step_of p.grid.spaces) step (step_from p.grid.spaces) x.spaces grid.1;
     }
+
+-- a lawful allocation of a sound plan can be summed over
+pub ready : (book : Book) (p : Plan) (x : Allocation) → Sound p → lawful book p x ≡ true → Ready p.wires x
+ready book p x s ok =
+    let parts = and_parts (counted p x) (in_grid p x && (admitted book p x && within_channel p x)) ok in
+    let others = and_parts (in_grid p x) (admitted book p x && within_channel p x) parts.1 in
+    ready_in_grid p x s parts.0 others.0
 
 -- an allocation of a drawing that was not refused can be summed over
 pub ready_after : (book : Book) (d : Drawing) (x : Allocation) (u : ℕ)
@@ -81,18 +86,3 @@ priced_lawful m book p x ok =
     let reply : Bool → Bool → Bool → Bool → Reply =
     λ a b c d. first_reason ((not a, WrongCount) ∷ (not b, StepOutsideGrid) ∷ (not c, TripleBarred) ∷ (not d, AboveChannel) ∷ []) in
     λ t. unless_refused (reply (count.0 t) (grid.0 t) (rules.0 t) (rules.1 t)) (price_of m p.wires x)
-
-module _ (qs : List Wire) (ws ss : List ℕ) (r : Ready qs (record { widths = ws; spaces = ss })) (i : ℕ) (h : i < length qs) where
-  -- the wire at a place is within its limits
-  pub limited_at : within_limits (get_or qs i no_wire) ≡ true
-  limited_at = all_at within_limits qs i no_wire h r.limited
-
-  -- its width and the spaces at its sides are steps
-  pub steps_at : three_steps (get_or ss i 0) (get_or ws i 0) (get_or ss (i + 1) 0) ≡ true
-  steps_at =
-      let wide = r.wide in
-      let apart = r.apart in
-      and_from (step (get_or ss i 0)) (step (get_or ws i 0) && step (get_or ss (i + 1) 0))
-      (all_at step ss i 0 (omega arith) r.space_steps)
-      (and_from (step (get_or ws i 0)) (step (get_or ss (i + 1) 0))
-      (all_at step ws i 0 (omega arith) r.width_steps) (all_at step ss (i + 1) 0 (omega arith) r.space_steps))

@@ -1,5 +1,5 @@
 pub mod Accepted
+pub mod Laying
 pub mod Limits
 pub mod Lists
-pub mod Rests
 pub mod Steps

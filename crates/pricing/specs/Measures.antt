@@ -11,4 +11,4 @@ pub record Measure (V : Type 0) : Type 0 where
 
 -- what the measure m of a kind means
 abbrev pub meaning : {M V : Type 0} → Ghosts M V → M → Measure V
-meaning kind m = record { empty = kind.empty; made = kind.made m; joined = kind.joined m; below = kind.below m }
+meaning kind m = record { empty = kind.EMPTY; made = kind.made m; joined = kind.joined m; below = kind.below m }

@@ -6,8 +6,5 @@ ghost use Rattle.pricing.specs.Allocations.{is_step_of};
 pub fn in_grid(byte: u8, step: u8) -> bool
     ensures { result ≡ is_step_of byte step }
 {
-    if step < 1 || 6 < step {
-        return false;
-    }
-    (byte >> (step - 1)) % 2 == 1
+    (1..=6).contains(&step) && (byte >> (step - 1)) % 2 == 1
 }

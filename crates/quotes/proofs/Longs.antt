@@ -18,7 +18,7 @@ use Rattle.pricing.specs.Replies.{priced}
 use Rattle.quotes.specs.declared.names.MeasureName.{MeasureName}
 use Rattle.quotes.specs.declared.names.MeasureName.TheVariants.{ByTotal, ByWorst, ByLate}
 use Rattle.quotes.specs.declared.requests.Request.{Request}
-use Rattle.quotes.specs.Asked.{Asked, Asks, steps_of}
+use Rattle.quotes.specs.Asked.{Asked, Asks}
 use Rattle.quotes.specs.Quotes.{reply_text, quote_by}
 
 -- widths and spaces
@@ -63,18 +63,18 @@ pub record Held (r : Request) (q : Option Asked) : Type 0 where
   pub ask : Asked
   pub is : q ≡ Some ask
   pub by_is : r.measure ≡ ask.by
-  pub wide_is : steps_of r.widths ≡ take 26 ask.wide
-  pub apart_is : steps_of r.spaces ≡ take 26 ask.apart
+  pub wide_is : r.widths.items ≡ take 26 ask.wide
+  pub apart_is : r.spaces.items ≡ take 26 ask.apart
 
 pub held_of : (r : Request) (q : Option Asked) → Asks (Some r) q → Held r q
 held_of r None h = absurd h
 held_of r (Some a) h = record { ask = a; is = refl; by_is = h.0; wide_is = h.1; apart_is = h.2 }
 
 -- the price that a held request asks for
-pub quoted_as_asked : (r : Request) (a : Asked) (p : Plan) → length p.wires ≤ 24 → r.measure ≡ a.by → steps_of r.widths ≡ take 26 a.wide → steps_of r.spaces ≡ take 26 a.apart
-    → quote_by r.measure p (of (steps_of r.widths) (steps_of r.spaces)) ≡ quote_by a.by p (of a.wide a.apart)
+pub quoted_as_asked : (r : Request) (a : Asked) (p : Plan) → length p.wires ≤ 24 → r.measure ≡ a.by → r.widths.items ≡ take 26 a.wide → r.spaces.items ≡ take 26 a.apart
+    → quote_by r.measure p (of (r.widths.items) (r.spaces.items)) ≡ quote_by a.by p (of a.wide a.apart)
 quoted_as_asked r a p few e w s =
-    ap (λ (n : MeasureName). quote_by n p (of (steps_of r.widths) (steps_of r.spaces))) e
-    ∙ ap (λ (z : List ℕ). quote_by a.by p (of z (steps_of r.spaces))) w
+    ap (λ (n : MeasureName). quote_by n p (of (r.widths.items) (r.spaces.items))) e
+    ∙ ap (λ (z : List ℕ). quote_by a.by p (of z (r.spaces.items))) w
     ∙ ap (λ (z : List ℕ). quote_by a.by p (of (take 26 a.wide) z)) s
     ∙ long_quoted a.by p a.wide a.apart few

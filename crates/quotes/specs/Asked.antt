@@ -3,7 +3,6 @@ use Rattle.std.specs.Prelude.{◌≡◌, ℕ, cond, ◌&&◌, List, [], ◌∷�
 use Rattle.text.specs.Numbers.{all_digits}
 use Rattle.quotes.specs.declared.names.MeasureName.{MeasureName}
 use Rattle.quotes.specs.declared.names.MeasureName.TheVariants.{ByTotal}
-use Rattle.quotes.specs.declared.steps.Steps.{Steps}
 use Rattle.quotes.specs.declared.requests.Request.{Request}
 use Rattle.quotes.specs.Quotes.{measure_named, steps_spelled}
 
@@ -27,13 +26,9 @@ asked (ws ∷ (ss ∷ [])) = asked_by (Some ByTotal) ws ss
 asked (ws ∷ (ss ∷ (m ∷ []))) = asked_by (measure_named m) ws ss
 asked (ws ∷ (ss ∷ (m ∷ (x ∷ xs)))) = None
 
--- the steps that are held
-abbrev pub steps_of : Steps → List ℕ
-steps_of s = take s.len s.places
-
 -- a request as it is held: of widths and spaces the first 26
 abbrev pub Asks : Option Request → Option Asked → Type 0
 Asks None None = Unit {0}
 Asks None (Some q) = ⊥
 Asks (Some r) None = ⊥
-Asks (Some r) (Some q) = (r.measure ≡ q.by) × (steps_of r.widths ≡ take 26 q.wide) × (steps_of r.spaces ≡ take 26 q.apart)
+Asks (Some r) (Some q) = (r.measure ≡ q.by) × (r.widths.items ≡ take 26 q.wide) × (r.spaces.items ≡ take 26 q.apart)

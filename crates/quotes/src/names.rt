@@ -2,10 +2,8 @@
 ghost use Rattle.std.specs.Prelude.{◌≡◌};
 ghost use Rattle.quotes.specs.Quotes.{measure_named};
 
-use text::fields::is_word;
-
 // One of the three measures.
-#[derive(Clone, Copy)]
+#[derive(Clone, Copy, Debug, PartialEq, Eq)]
 pub(crate) enum MeasureName {
     ByTotal,
     ByWorst,
@@ -13,16 +11,14 @@ pub(crate) enum MeasureName {
 }
 
 // The measure that a word names.
-pub(crate) fn measure_named(word: &[u8]) -> Option<MeasureName>
+// Kept as an `Option`: of a word that names none there is nothing more to say, so an error type would be empty.
+pub(crate) fn measure_named(word: &str) -> Option<MeasureName>
     ensures { result ≡ measure_named word.now }
 {
-    if is_word(word, b"total") {
-        Some(MeasureName::ByTotal)
-    } else if is_word(word, b"worst") {
-        Some(MeasureName::ByWorst)
-    } else if is_word(word, b"late") {
-        Some(MeasureName::ByLate)
-    } else {
-        None
+    match word {
+        "total" => Some(MeasureName::ByTotal),
+        "worst" => Some(MeasureName::ByWorst),
+        "late" => Some(MeasureName::ByLate),
+        _ => None,
     }
 }

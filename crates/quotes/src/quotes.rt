@@ -5,77 +5,54 @@ ghost use Rattle.rules.specs.Steps.{three_steps};
 ghost use Rattle.pricing.specs.Measures.{meaning};
 ghost use Rattle.pricing.specs.Replies.{priced};
 ghost use Rattle.text.specs.Lines.{line_of};
-ghost use Rattle.text.specs.Scratch.{line_text};
 ghost use Rattle.writers.specs.Answers.{answer_bytes};
 ghost use Rattle.quotes.specs.Answers.{usage_text, quote_text};
-ghost use Rattle.quotes.specs.Asked.{steps_of};
 ghost use Rattle.quotes.specs.Quotes.{value_fields, reply_text, quote_by};
 
 use crate::names::MeasureName;
 use crate::requests::{Request, requested};
 use drawing::Drawing;
 use measures::{Fields, LateFirst, PrintableMeasure, Total, Worst};
-use pricing::price;
+use pricing::{Allocation, price};
 use rules::OpenBook;
-use sheets::faults::{Fault, Layer};
+use sheets::faults::Fault;
 use sheets::reading::read_sheet;
 use text::lines::Line;
 use writers::answers::Answer;
+pub use writers::answers::checks::READ;
 use writers::answers::checks::sheet_part;
+use writers::line_texts::numbers_line;
 
 // The line of a price.
 fn price_line(used: u32, power: u32, delay: Fields) -> Line
-    ensures { line_text result ≡ line_of (codes "price" ∷ decimal used ∷ decimal power ∷ value_fields delay) }
+    ensures { result ≡ line_of (codes "price" ∷ decimal used ∷ decimal power ∷ value_fields delay) }
 {
-    let mut line = Line::new();
-    line.word(b"price");
-    line.number(used);
-    line.number(power);
     match delay {
-        Fields::One(n) => {
-            line.number(n);
-            line.close();
-            line
-        }
-        Fields::Two(n, m) => {
-            line.number(n);
-            line.number(m);
-            line.close();
-            line
-        }
+        Fields::One(n) => numbers_line(b"price", &[used, power, n]),
+        Fields::Two(n, m) => numbers_line(b"price", &[used, power, n, m]),
     }
 }
 
 // The price of an allocation by the open book and a measure, or the line that names its refusal.
-fn quote<M: PrintableMeasure>(
-    drawing: &Drawing,
-    measure: &M,
-    widths: &[u8],
-    spaces: &[u8],
-) -> Answer
-    ensures { answer_bytes result ≡ reply_text (M.PrintableMeasure.shown measure.now) (priced (meaning M.DelayMeasure measure.now) three_steps (plan_of drawing.now) (record { widths = widths.entry.now; spaces = spaces.now })) }
+fn quote<M: PrintableMeasure>(drawing: &Drawing, measure: &M, allocation: &Allocation<'_>) -> Answer
+    ensures { answer_bytes result ≡ reply_text (M.PrintableMeasure.shown measure.now) (priced (meaning M.DelayMeasure measure.now) three_steps (plan_of drawing.now) allocation.now) }
 {
-    match price(drawing, &OpenBook, measure, widths, spaces) {
+    match price(drawing, &OpenBook, measure, allocation) {
         Ok(cost) => Answer::line(&price_line(cost.used, cost.power, measure.fields(cost.delay))),
-        Err(why) => Answer::refusal(Fault {
-            why,
-            layer: Layer::Call,
-            line: 0,
-            field: 0,
-        }),
+        Err(why) => Answer::refusal(Fault::from(why)),
     }
 }
 
 // The price that a request asks for.
 fn quote_by(drawing: &Drawing, request: &Request) -> Answer
-    ensures { answer_bytes result ≡ quote_by request.now.measure (plan_of drawing.now) (record { widths = steps_of request.now.widths; spaces = steps_of request.now.spaces }) }
+    ensures { answer_bytes result ≡ quote_by request.now.measure (plan_of drawing.now) (record { widths = request.now.widths.items; spaces = request.now.spaces.items }) }
 {
-    let widths = request.widths.list();
-    let spaces = request.spaces.list();
+    let allocation = Allocation::new(request.widths.as_slice(), request.spaces.as_slice());
+    // Kept: a name picks the measure, whose values are of another type each, so the call stands in each case.
     match request.measure {
-        MeasureName::ByTotal => quote(drawing, &Total, widths, spaces),
-        MeasureName::ByWorst => quote(drawing, &Worst, widths, spaces),
-        MeasureName::ByLate => quote(drawing, &LateFirst, widths, spaces),
+        MeasureName::ByTotal => quote(drawing, &Total, &allocation),
+        MeasureName::ByWorst => quote(drawing, &Worst, &allocation),
+        MeasureName::ByLate => quote(drawing, &LateFirst, &allocation),
     }
 }
 

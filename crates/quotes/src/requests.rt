@@ -3,43 +3,49 @@ ghost use Rattle.std.specs.Prelude.{◌≡◌, map, string_bytes};
 ghost use Rattle.quotes.specs.Asked.{asked, asked_by, Asks};
 
 use crate::names::{MeasureName, measure_named};
-use crate::steps::Steps;
-use crate::steps::spelled::all_digits;
+use crate::steps::{HELD, steps_spelled};
+use arrayvec::ArrayVec;
+use text::fields::all_digits;
 
 // A measure, widths and spaces.
-#[derive(Clone, Copy)]
+#[derive(Drop)]
 pub(crate) struct Request {
     pub(crate) measure: MeasureName,
-    pub(crate) widths: Steps,
-    pub(crate) spaces: Steps,
+    pub(crate) widths: ArrayVec<u8, HELD>,
+    pub(crate) spaces: ArrayVec<u8, HELD>,
 }
 
 // The request of two runs of digits and a measure, if they are that.
-fn request_by(measure: Option<MeasureName>, widths: &[u8], spaces: &[u8]) -> Option<Request>
+fn request_by(measure: Option<MeasureName>, widths: &str, spaces: &str) -> Option<Request>
     ensures { Asks result (asked_by measure widths.now spaces.now) }
 {
     let measure = measure?;
-    if all_digits(widths) && all_digits(spaces) {
-        return Some(Request {
-            measure,
-            widths: Steps::spelled(widths),
-            spaces: Steps::spelled(spaces),
-        });
+    let (widths, spaces) = (widths.as_bytes(), spaces.as_bytes());
+    if !(all_digits(widths) && all_digits(spaces)) {
+        return None;
     }
-    None
+    Some(Request {
+        measure,
+        widths: steps_spelled(widths),
+        spaces: steps_spelled(spaces),
+    })
 }
 
 // The request of a program's arguments, if they are one.
 pub(crate) fn requested(args: &[String]) -> Option<Request>
     ensures { Asks result (asked (map string_bytes args.now)) }
 {
-    if args.len() == 2 {
-        let total = Some(MeasureName::ByTotal);
-        return request_by(total, args[0].as_bytes(), args[1].as_bytes());
+    match args {
+        [widths, spaces] => request_by(
+            Some(MeasureName::ByTotal),
+            widths.as_str(),
+            spaces.as_str(),
+        ),
+        [widths, spaces, measure] => request_by(
+            measure_named(measure.as_str()),
+            widths.as_str(),
+            spaces.as_str(),
+        ),
+        _ => None,
     }
-    if args.len() == 3 {
-        let named = measure_named(args[2].as_bytes());
-        return request_by(named, args[0].as_bytes(), args[1].as_bytes());
-    }
-    None
 }

@@ -1,3 +1,2 @@
-pub mod Either
 pub mod Pairs
 pub mod Steps

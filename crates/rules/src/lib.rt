@@ -2,10 +2,9 @@
 #![tactic(auto)]
 
 pub mod books;
-pub mod either;
 pub mod pairs;
 mod steps;
+pub mod two_kinds;
 
 pub use books::{OpenBook, RuleBook};
-pub use either::EitherBook;
 pub use pairs::PairBook;

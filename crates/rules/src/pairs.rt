@@ -8,6 +8,7 @@ use crate::books::RuleBook;
 use crate::steps::is_step;
 
 // A mark for each pair (width, space), six spaces for each width in turn: true where the pair is barred.
+// Kept as one array of fixed memory, as a book is `Copy`: rows of six would nest what a book means, too.
 #[derive(Clone, Copy)]
 pub struct PairBook {
     barred: [bool; 36],
@@ -27,11 +28,9 @@ impl PairBook {
     fn permits(&self, width: u8, space: u8) -> bool
         ensures { result ≡ stands self.now.barred width space }
     {
-        if is_step(width) && is_step(space) {
-            !self.barred[(width as usize - 1) * 6 + (space as usize - 1)]
-        } else {
-            false
-        }
+        is_step(width)
+            && is_step(space)
+            && !self.barred[(width as usize - 1) * 6 + (space as usize - 1)]
     }
 
     // Bars a pair: no triple with that width and that space on a side is admitted any more. A pair that

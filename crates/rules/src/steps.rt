@@ -6,5 +6,5 @@ ghost use Rattle.rules.specs.Steps.{step};
 pub(crate) fn is_step(n: u8) -> bool
     ensures { result ≡ step n }
 {
-    1 <= n && n <= 6
+    (1..=6).contains(&n)
 }

@@ -11,18 +11,8 @@ use Rattle.text.specs.Cuts.{cut_first, cut_rest, cut_at, closed_count, line_coun
 use Rattle.sheets.specs.declared.faults.Fault.{Fault}
 use Rattle.sheets.specs.declared.reading.Body.{Body}
 use Rattle.sheets.specs.declared.reading.Body.TheVariants.{AWire}
-use Rattle.sheets.specs.Faults.{line_fault, word_fault, count_fault, bundle_fault, wire_field}
-use Rattle.sheets.specs.Reads.{and_then, refuse_if, or_placed, by_body, body_line, read_body, ended, nothing_left, inserted_last}
-
--- a line at fault
-pub line_stops : (line : ℕ) (p : Plan) (l : List ℕ) (ms : List (List ℕ)) (f : Fault)
-    → body_line line (closed_count ms (length (cut_at 44 l))) l ≡ Err f → read_body line p l ms ≡ Err f
-line_stops line p l [] f e = ap (λ (r : Result Body Fault). and_then r (λ b. Err (line_fault line))) e
-line_stops line p l (m ∷ ms) f e =
-    ap (λ (r : Result Body Fault). and_then r (λ b.
-    by_body b
-    (λ w. and_then (or_placed (inserted_last p w) (λ why. bundle_fault line why (wire_field w why))) (λ q. read_body (line + 1) q m ms))
-    (λ n. ended line p n m ms))) e
+use Rattle.sheets.specs.Faults.{word_fault, count_fault, bundle_fault, wire_field}
+use Rattle.sheets.specs.Reads.{and_then, refuse_if, or_placed, by_body, body_line, head_line, read_body, read_rest, read_sheet, ended, nothing_left, inserted_last}
 
 -- what a line says is followed by what follows it
 pub line_goes : (line : ℕ) (p : Plan) (l : List ℕ) (ms : List (List ℕ)) (bs : List ℕ) (b : Body) → ms ≡ cut_at 10 bs
@@ -73,12 +63,6 @@ ended_more line p n bs e h =
     ap (λ b. refuse_if (not b) (count_fault line) (refuse_if (not (nothing_left (cut_first 10 bs) (cut_rest 10 bs))) (word_fault (line + 1)) (Ok p))) (eq-eqb n (length p.wires) e)
     ∙ ap (λ b. refuse_if (not b) (word_fault (line + 1)) (Ok p)) (left_some bs h)
 
-pub ended_done : (line : ℕ) (p : Plan) (n : ℕ) (bs : List ℕ) → n ≡ length p.wires → length bs ≡ 0
-    → ended line p n (cut_first 10 bs) (cut_rest 10 bs) ≡ Ok p
-ended_done line p n bs e h =
-    ap (λ b. refuse_if (not b) (count_fault line) (refuse_if (not (nothing_left (cut_first 10 bs) (cut_rest 10 bs))) (word_fault (line + 1)) (Ok p))) (eq-eqb n (length p.wires) e)
-    ∙ ap (λ b. refuse_if (not b) (word_fault (line + 1)) (Ok p)) (left_none bs h)
-
 -- one wire more
 grown : (r : Reply) (p q : Plan) (place : Refusal → Fault) → Ok q ≡ or_placed (unless_refused r p) place → q ≡ p
 grown (Ok u) p q place e = cc
@@ -108,3 +92,9 @@ wire_stops line line' p f bs bs' w l e g t =
     line_goes line p (cut_first 10 bs) (cut_rest 10 bs) bs' (AWire w) e (sym g)
     ∙ ap (λ k. and_then (or_placed (inserted_last p w) (λ why. bundle_fault k why (wire_field w why))) (λ z. read_body (k + 1) z (cut_first 10 bs') (cut_rest 10 bs'))) (sym l)
     ∙ ap (λ (r : Result Plan Fault). and_then r (λ z. read_body (line' + 1) z (cut_first 10 bs') (cut_rest 10 bs'))) (sym t)
+
+-- a sheet whose head is accepted is what its other lines say
+pub sheet_goes : (bs bs' : List ℕ) (p : Plan) (r : Result Plan Fault) → Ok p ≡ head_line (line_count bs) (cut_first 10 bs) → cut_rest 10 bs ≡ cut_at 10 bs'
+    → r ≡ read_body 2 p (cut_first 10 bs') (cut_rest 10 bs') → r ≡ read_sheet bs
+sheet_goes bs bs' p r h s b =
+    b ∙ sym (ap (λ (x : Result Plan Fault). and_then x (λ q. read_rest q (cut_rest 10 bs))) (sym h) ∙ ap (read_rest p) s)

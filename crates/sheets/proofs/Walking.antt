@@ -1,10 +1,11 @@
 -- The reader's steps, field by field, and the fields of the line that it stands at.
-use Rattle.std.proofs.Common.{◌≡◌, ℕ, zero, suc, ◌<◌, ◌≤◌, List, [], ◌∷◌, length, get_or, refl, ap, ◌∙◌, arith}
-use Rattle.std.proofs.lemmas.Bool.Decides.{nat_tests}
+use Rattle.std.proofs.Common.{◌≡◌, ℕ, zero, suc, ◌+◌, ◌<◌, ◌≤◌, List, [], ◌∷◌, length, get_or, drop, sym, refl, ap, ◌∙◌, arith}
+use Rattle.std.proofs.lemmas.List.{drop-drop, drop_all}
 use Rattle.text.specs.Cuts.{cut_first, cut_rest, cut_at, closed_count, field_of, after}
 use Rattle.text.proofs.Fronts.{field_more, field_last}
 use Rattle.sheets.specs.Reads.{wire_from, number_at}
-use Rattle.sheets.specs.Walks.{after_fields, wire_front, number_front}
+use Rattle.sheets.specs.Places.{after_fields}
+use Rattle.sheets.specs.Walks.{wire_front, number_front}
 
 -- a line that counts some fields has them, and its line end
 pub counted : (ms : List (List ℕ)) (n k : ℕ) → closed_count ms n ≡ k → 0 < k → (n ≡ k) × (0 < length ms)
@@ -43,11 +44,11 @@ wire_walk line bs w =
 pub end_walk : (line : ℕ) (bs : List ℕ) → Walk 1 bs → number_front line 2 (after bs) ≡ number_at line 2 (cut_at 44 (cut_first 10 bs))
 end_walk line bs w = rw (w.fields 1 (omega arith))
 
--- a part is no longer than what it is cut from
-first_le : (s : ℕ) (bs : List ℕ) → length (cut_first s bs) ≤ length bs
-first_le s [] = omega arith
-first_le s (c ∷ cs) = let ih = first_le s cs in grind (arith, nat_tests)
+-- a reader goes past n bytes from `at` on and the byte that ends them
+pub moved_past : (bs : List ℕ) (at n : ℕ) → n ≡ length (field_of (drop at bs)) → drop (at + n + 1) bs ≡ after (drop at bs)
+moved_past bs at n e =
+    sym (ap (λ k. drop 1 (drop k (drop at bs))) (sym e) ∙ (ap (drop 1) (drop-drop n at bs) ∙ drop-drop 1 (at + n) bs))
 
--- the field at the front is no longer than all bytes
-pub field_le : (bs : List ℕ) → length (field_of bs) ≤ length bs
-field_le bs = omega (arith, first_le 44 (cut_first 10 bs), first_le 10 bs)
+-- where no byte is left that could end them, nothing is left past them
+pub moved_out : (bs : List ℕ) (at n : ℕ) → n ≡ length (field_of (drop at bs)) → length bs ≤ at + n → drop (at + n) bs ≡ after (drop at bs)
+moved_out bs at n e h = drop_all (at + n) bs h ∙ (sym (drop_all (at + n + 1) bs (omega arith)) ∙ moved_past bs at n e)

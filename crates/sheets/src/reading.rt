@@ -1,10 +1,11 @@
-ghost use Rattle.std.specs.Prelude.{◌≡◌, ℕ, ◌+◌, ◌≤◌, false, List, [], ◌∷◌, length, is_ok, IfOk, OnOk};
+ghost use Rattle.std.specs.Prelude.{◌≡◌, ◌+◌, ◌≤◌, false, [], length, is_ok, IfOk, OnOk};
 ghost use Rattle.drawing.specs.Shown.{plan_of, planned};
-ghost use Rattle.text.specs.Cuts.{cut_first, cut_rest, cut_at, line_count};
+ghost use Rattle.text.specs.Cuts.{cut_first, cut_rest, line_count};
 ghost use Rattle.sheets.specs.Faults.{head_field, wire_field, bundle_fault};
 ghost use Rattle.sheets.specs.Reads.{head_line, body_line, read_body, read_sheet, ended, or_placed, inserted_last};
 ghost use Rattle.sheets.specs.Trips.{Exactly, RunsAreSteps};
-ghost use Rattle.sheets.specs.Walks.{rest, after_fields, wire_front, head_front, going_on};
+ghost use Rattle.sheets.specs.Places.{past, PastLine};
+ghost use Rattle.sheets.specs.Walks.{wire_front, head_front, going_on};
 
 use crate::faults::{Fault, Layer};
 use crate::reader::Reader;
@@ -41,23 +42,10 @@ fn wire_field_of(wire: &Wire, why: Refusal) -> u32
 }
 
 impl<'a> Reader<'a> {
-    // A refusal of the line that is read, by its layer and at a field.
-    fn fault(&self, why: Refusal, layer: Layer, field: u32) -> Fault
-        ensures { result ≡ record { why = why; layer = layer; line = self.now.line; field = field } }
-    {
-        Fault {
-            why,
-            layer,
-            line: self.line,
-            field,
-        }
-    }
-
     // The channel and the grid of a head, past its word.
     fn head_fields(&mut self) -> Result<(u32, Grid), Fault>
-        ensures answer { result ≡ head_front self.old.line (rest self.old) }
-        ensures stands { OnOk result (rest self.new ≡ after_fields 3 (rest self.old)) }
-        ensures line { self.new.line ≡ self.old.line }
+        ensures answer { result ≡ head_front self.old.line self.old.left }
+        ensures stands { OnOk result (self.new ≡ past 3 self.old) }
     {
         let channel = self.next_number(2)?;
         let widths = self.next_run(3)?;
@@ -67,36 +55,27 @@ impl<'a> Reader<'a> {
 
     // The eight numbers of a wire, past its word.
     fn wire_fields(&mut self) -> Result<Wire, Fault>
-        ensures answer { result ≡ wire_front self.old.line (rest self.old) }
-        ensures stands { OnOk result (rest self.new ≡ after_fields 8 (rest self.old)) }
-        ensures line { self.new.line ≡ self.old.line }
+        ensures answer { result ≡ wire_front self.old.line self.old.left }
+        ensures stands { OnOk result (self.new ≡ past 8 self.old) }
     {
-        let a = self.next_number(2)?;
-        let b = self.next_number(3)?;
-        let g = self.next_number(4)?;
-        let d = self.next_number(5)?;
-        let e = self.next_number(6)?;
-        let k = self.next_number(7)?;
-        let h = self.next_number(8)?;
-        let t = self.next_number(9)?;
         Ok(Wire {
-            a,
-            b,
-            g,
-            d,
-            e,
-            k,
-            h,
-            t,
+            a: self.next_number(2)?,
+            b: self.next_number(3)?,
+            g: self.next_number(4)?,
+            d: self.next_number(5)?,
+            e: self.next_number(6)?,
+            k: self.next_number(7)?,
+            h: self.next_number(8)?,
+            t: self.next_number(9)?,
         })
     }
 
-    // The head line and the drawing that it opens; the reader then stands at the line after it.
+    // The head line and the drawing that it opens; the reader then stands at the line after it, and its line number is still that of the
+    // head.
     fn head(&mut self) -> Result<Drawing, Fault>
         requires { self.old.line ≡ 1 }
-        ensures answer { planned result ≡ head_line (line_count (rest self.old)) (cut_first 10 (rest self.old)) }
-        ensures stands { OnOk result (cut_rest 10 (rest self.old) ≡ cut_at 10 (rest self.new)) }
-        ensures line { OnOk result (self.new.line ≡ 2) }
+        ensures answer { planned result ≡ head_line (line_count self.old.left) (cut_first 10 self.old.left) }
+        ensures stands { OnOk result (PastLine self.old self.new) }
         ensures wireless { IfOk result (λ d. (plan_of d).wires ≡ []) }
     {
         let count = self.fields_in_line();
@@ -104,40 +83,38 @@ impl<'a> Reader<'a> {
         if !is_word(word, b"sheet") {
             return Err(self.fault(Refusal::WordNotDue, Layer::Line, 1));
         }
-        if count != 4 {
+        if count != Some(4) {
             return Err(self.fault(Refusal::BadLine, Layer::Line, 0));
         }
         let (channel, grid) = self.head_fields()?;
-        match Drawing::open(grid, channel) {
-            Ok(drawing) => {
-                self.line = 2;
-                Ok(drawing)
-            }
-            Err(why) => Err(self.fault(why, Layer::Bundle, head_field_of(why))),
-        }
+        // Kept: of a closure that holds the reader and calls `fault` nothing is known, so it holds the line number.
+        let line = self.line();
+        Drawing::open(grid, channel).map_err(|why| Fault {
+            why,
+            layer: Layer::Bundle,
+            line,
+            field: head_field_of(why),
+        })
     }
 
     // A line after the head; the reader then stands at the line after it, and its line number is still that of the line read.
     fn body_line(&mut self) -> Result<Body, Fault>
-        ensures answer { result ≡ body_line self.old.line (line_count (rest self.old)) (cut_first 10 (rest self.old)) }
-        ensures stands { OnOk result (cut_rest 10 (rest self.old) ≡ cut_at 10 (rest self.new)) }
-        ensures line { self.new.line ≡ self.old.line }
+        ensures answer { result ≡ body_line self.old.line (line_count self.old.left) (cut_first 10 self.old.left) }
+        ensures stands { OnOk result (PastLine self.old self.new) }
     {
         let count = self.fields_in_line();
         let word = self.next_word();
         if is_word(word, b"wire") {
-            if count != 9 {
+            if count != Some(9) {
                 return Err(self.fault(Refusal::BadLine, Layer::Line, 0));
             }
-            let wire = self.wire_fields()?;
-            return Ok(Body::AWire(wire));
+            return Ok(Body::AWire(self.wire_fields()?));
         }
         if is_word(word, b"end") {
-            if count != 2 {
+            if count != Some(2) {
                 return Err(self.fault(Refusal::BadLine, Layer::Line, 0));
             }
-            let n = self.next_number(2)?;
-            return Ok(Body::TheEnd(n));
+            return Ok(Body::TheEnd(self.next_number(2)?));
         }
         Err(self.fault(Refusal::WordNotDue, Layer::Line, 1))
     }
@@ -147,26 +124,29 @@ impl<'a> Reader<'a> {
         ensures answer { going_on result (plan_of drawing.new) ≡ or_placed (inserted_last (plan_of drawing.old) wire) (λ why. bundle_fault self.now.line why (wire_field wire why)) }
         ensures refused { is_ok result ≡ false → drawing.new ≡ drawing.old }
     {
-        match drawing.append(wire) {
-            Ok(()) => Ok(()),
-            Err(why) => Err(self.fault(why, Layer::Bundle, wire_field_of(&wire, why))),
-        }
+        // Kept: of a closure that holds the reader and calls `fault` nothing is known, so it holds the line number.
+        let line = self.line();
+        drawing.append(wire).map_err(|why| Fault {
+            why,
+            layer: Layer::Bundle,
+            line,
+            field: wire_field_of(&wire, why),
+        })
     }
 
     // The end line's count has to be that of the wires, and nothing may follow.
     fn finish(&self, drawing: &Drawing, count: u32) -> Result<(), Fault>
         requires { self.now.line ≤ 26 }
-        ensures { going_on result (plan_of drawing.now) ≡ ended self.now.line (plan_of drawing.now) count (cut_first 10 (rest self.now)) (cut_rest 10 (rest self.now)) }
+        ensures { going_on result (plan_of drawing.now) ≡ ended self.now.line (plan_of drawing.now) count (cut_first 10 self.now.left) (cut_rest 10 self.now.left) }
     {
         if count as usize != drawing.wires().len() {
             return Err(self.fault(Refusal::WrongEndCount, Layer::Line, 0));
         }
-        if self.at < self.bytes.len() {
+        if !self.is_at_end() {
+            let here = self.fault(Refusal::WordNotDue, Layer::Line, 1);
             return Err(Fault {
-                why: Refusal::WordNotDue,
-                layer: Layer::Line,
-                line: self.line + 1,
-                field: 1,
+                line: here.line + 1,
+                ..here
             });
         }
         Ok(())
@@ -175,14 +155,14 @@ impl<'a> Reader<'a> {
     // The lines after the head, onto the drawing that it opened.
     fn body(&mut self, opened: Drawing) -> Result<Drawing, Fault>
         requires { self.old.line ≡ length (plan_of opened).wires + 2 }
-        ensures { planned result ≡ read_body self.old.line (plan_of opened) (cut_first 10 (rest self.old)) (cut_rest 10 (rest self.old)) }
+        ensures { planned result ≡ read_body self.old.line (plan_of opened) (cut_first 10 self.old.left) (cut_rest 10 self.old.left) }
     {
         let mut drawing = opened;
         'lines: loop {
             match self.body_line()? {
                 Body::AWire(wire) => {
                     self.take_wire(&mut drawing, wire)?;
-                    self.line += 1;
+                    self.count_line();
                 }
                 Body::TheEnd(count) => {
                     self.finish(&drawing, count)?;
@@ -201,12 +181,11 @@ pub fn read_sheet(bytes: &[u8]) -> Result<Drawing, Fault>
 {
     let mut reader = Reader::over(bytes);
     let drawing = reader.head()?;
+    reader.count_line();
     reader.body(drawing)
 }
 
 // What a run of digits says of the grid: its digits are the steps that the grid's byte allows.
-pub fn runs_are_steps() -> u8
+pub fn runs_are_steps()
     ensures { RunsAreSteps }
-{
-    0
-}
+{}

@@ -1,18 +1,17 @@
 -- One point more, with its witness. Assumes nothing.
-use Rattle.std.proofs.Common.{◌≡◌, ℕ, zero, suc, ◌+◌, ◌-◌, ◌*◌, ◌<◌, ◌≤◌, List, [], ◌∷◌, ◌++◌, length, get_or, take, drop, set, replicate, Some, None, Option, sym, refl, ap, ◌∙◌, le_of_suc-le-suc, not-suc-le-zero, add-one, arith, length-append, length-drop, length-take, get_or-drop, take-suc, drop-drop, below_more}
+use Rattle.std.proofs.Common.{◌≡◌, ℕ, zero, suc, ◌+◌, ◌-◌, ◌*◌, ◌<◌, ◌≤◌, List, [], ◌∷◌, ◌++◌, length, get_or, take, drop, set, replicate, sym, refl, ap, ◌∙◌, add-one, arith, length-append, length-drop, length-take, get_or-drop, take-suc, drop-drop, below_more}
 use borrow.Rule.Slice.PartMut.{put_mid}
 use lib.ListN.{length-replicate}
 use Rattle.std.proofs.lemmas.List.{drop-replicate}
 use Rattle.std.proofs.lemmas.Slice.{between_is, take-put_mid_below, drop-put_mid, between-put_mid}
-use Rattle.measures.specs.Laws.{Laws}
-use Rattle.pricing.specs.Measures.{Measure}
 use Rattle.frontier.specs.declared.records.Point.{Point}
 use Rattle.frontier.specs.declared.records.State.{State}
-use Rattle.solver.specs.Front.{blank_state, row_at, point_in, points_in, InReach, Known, front, IsNext}
+use Rattle.frontier.specs.Orders.{blank_state}
+use Rattle.solver.specs.Front.{row_at, point_in}
 use Rattle.solver.specs.Strips.{row_bytes}
 use Rattle.solver.specs.Trail.{widths_to, spaces_to, path_to}
-use Rattle.solver.specs.Written.{blank_point, HasWitness, Filled, Partly}
-use Rattle.solver.proofs.Bests.{reads, next_none, next_point, next_known}
+use Rattle.frontier.specs.Orders.{blank_point}
+use Rattle.solver.specs.Written.{HasWitness, Filled}
 use Rattle.solver.proofs.Bytes.{padded, widths_length, spaces_length}
 
 -- what is left of a list, and its first element
@@ -23,7 +22,7 @@ drop_head d (x ∷ xs) zero p rest e = (omega arith, cc, cc)
 drop_head d (x ∷ xs) (suc n) p rest e = let r = drop_head d xs n p rest e in (omega (arith, r.0), r.1, r.2)
 
 -- nothing is left
-drop_none : {A : Type 0} (xs : List A) (n : ℕ) → drop n xs ≡ [] → length xs ≤ n
+pub drop_none : {A : Type 0} (xs : List A) (n : ℕ) → drop n xs ≡ [] → length xs ≤ n
 drop_none [] n e = omega arith
 drop_none (x ∷ xs) zero e = absurd (omega (arith, ap length e))
 drop_none (x ∷ xs) (suc n) e = let r = drop_none xs n e in omega arith
@@ -32,16 +31,6 @@ drop_none (x ∷ xs) (suc n) e = let r = drop_none xs n e in omega arith
 push_blank : {A : Type 0} (b : A) (xs : List A) (k : ℕ) (x : A) → set (xs ++ replicate (suc k) b) (length xs) x ≡ (xs ++ (x ∷ [])) ++ replicate k b
 push_blank b [] k x = refl
 push_blank b (y ∷ ys) k x = ap (λ zs. y ∷ zs) (push_blank b ys k x)
-
--- one place more is blanked
-blank_suc : {A : Type 0} (b : A) (i : ℕ) (xs : List A) → i < length xs → set (replicate i b ++ drop i xs) i b ≡ replicate (suc i) b ++ drop (suc i) xs
-blank_suc b i [] h = absurd (not-suc-le-zero h)
-blank_suc b zero (x ∷ xs) h = refl
-blank_suc b (suc i) (x ∷ xs) h = ap (λ zs. b ∷ zs) (blank_suc b i xs (le_of_suc-le-suc h))
-
--- and with the place counted as code does
-pub blank_more : {A : Type 0} (b : A) (i : ℕ) (xs : List A) → i < length xs → set (replicate i b ++ drop i xs) i b ≡ replicate (i + 1) b ++ drop (i + 1) xs
-blank_more b i xs h = rw add-one (blank_suc b i xs h)
 
 module _ {V : Type 0} (e : V) (table : List (State V)) (first wires : ℕ) (F : List (Point V)) (slots room : ℕ) where
   -- nothing is written
@@ -140,30 +129,6 @@ module _ {V : Type 0} (e : V) (table : List (State V)) (first wires : ℕ) (F : 
                   ∙ between-put_mid (49 * n) 49 strip (row_bytes (path_to e table wires slot)) (49 * n + 49) (omega arith) (row_long slot few ∙ q);
             }
 
-module _ {V : Type 0} (m : Measure V) (e : V) (rows : List (State V)) (n : ℕ) (after : Option V) (was : Partly m rows n after) where
-  -- one point more is gone through
-  pub partly_more : (p : Point V) (after' : Option V) → Known (points_in rows) after' → front m after (points_in rows) ≡ p ∷ front m after' (points_in rows) →
-      (n < length (front m None (points_in rows))) × (get_or (front m None (points_in rows)) n (blank_point e) ≡ p) × Partly m rows (n + 1) after'
-  partly_more p after' known' step =
-      let h = drop_head (blank_point e) (front m None (points_in rows)) n p (front m after' (points_in rows)) (was.to_come ∙ step) in
-      (h.0, h.1, record { known = known'; to_come = rw add-one h.2 })
-
-  -- all are
-  pub partly_done : front m after (points_in rows) ≡ [] → length (front m None (points_in rows)) ≤ n
-  partly_done none = drop_none (front m None (points_in rows)) n (was.to_come ∙ none)
-
-module _ {V : Type 0} (m : Measure V) {reach : ℕ → V → Type 0} (laws : Laws m.empty m.made m.joined m.below reach) (e : V) (rows : List (State V)) (fine : InReach reach (points_in rows)) (n : ℕ)
-    (after : Option V) (was : Partly m rows n after) (r : ℕ) (next : IsNext m e rows after r) where
-  -- the next row is the next point
-  pub turn : r < length rows →
-      (n < length (front m None (points_in rows))) × (get_or (front m None (points_in rows)) n (blank_point e) ≡ point_in (row_at e rows r)) × Partly m rows (n + 1) (Some (row_at e rows r).delay)
-  turn h =
-      partly_more m e rows n after was (point_in (row_at e rows r)) (Some (row_at e rows r).delay) (next_known m laws e rows fine after was.known r next h) (next_point m laws e rows fine after was.known r next h)
-
-  -- no row is next
-  pub over : length rows ≤ r → length (front m None (points_in rows)) ≤ n
-  over h = let w = next.within in partly_done m e rows n after was (next_none m laws e rows fine after was.known r next (omega arith))
-
 module _ {V : Type 0} (e : V) (table rows : List (State V)) (first r : ℕ) (part : rows ≡ drop first table) (h : r < length rows) where
   -- a row stands in the table
   pub slot_in : first + r < length table
@@ -172,10 +137,3 @@ module _ {V : Type 0} (e : V) (table rows : List (State V)) (first r : ℕ) (par
   -- and is the same there
   pub slot_same : row_at e table (first + r) ≡ row_at e rows r
   slot_same = sym (ap (λ z. get_or z r (blank_state e)) part ∙ get_or-drop first table r (blank_state e))
-
-  -- its point, read at any defaults
-  pub read_point : (x y : State V) → point_in (row_at e table (first + r)) ≡ record { power = (get_or rows r x).power; delay = (get_or rows r y).delay }
-  read_point x y =
-      let a = reads rows r (blank_state e) x h in
-      let b = reads rows r (blank_state e) y h in
-      ap point_in slot_same ∙ (λ t. record { power = (a t).power; delay = (b t).delay })

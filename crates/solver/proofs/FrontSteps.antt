@@ -12,7 +12,8 @@ use Rattle.frontier.proofs.Members.{and_left, and_right, and_both, either, never
 use Rattle.frontier.proofs.Fronts.{Orders, front_in, front_make}
 use Rattle.frontier.proofs.Sorted.{rising_in, rising_make, rising_rises, same_rising, distinct_apart, Apart}
 use Rattle.frontier.proofs.OneCurve.{price_orders}
-use Rattle.solver.specs.Front.{Known, ahead, earlier, still_ahead, front}
+use Rattle.frontier.specs.Orders.{point_upto}
+use Rattle.solver.specs.Front.{Known, ahead, still_ahead, front}
 
 -- a test that does not pass
 pub not_make : (b : Bool) → (b ≡ true → ⊥) → not b ≡ true
@@ -41,7 +42,7 @@ module _ {V : Type 0} (m : Measure V) where
     pub delay : p.power ≡ q.power → m.below p.delay q.delay ≡ true
 
   -- what the test says
-  pub earlier_parts : (p q : Point V) → earlier m p q ≡ true → Earlier p q
+  pub earlier_parts : (p q : Point V) → point_upto m p q ≡ true → Earlier p q
   earlier_parts p q t = go (or_cases (ltb p.power q.power) (eqb p.power q.power && m.below p.delay q.delay) t)
     where
       go : (ltb p.power q.power ≡ true) ⊎ (eqb p.power q.power && m.below p.delay q.delay ≡ true) → Earlier p q
@@ -100,7 +101,7 @@ module _ {V : Type 0} (m : Measure V) {reach : ℕ → V → Type 0} (laws : Law
       empty [] h = refl
       empty (x ∷ xs) h = absurd (h x (Memᴰ.head refl))
 
-  module _ (a : Option V) (known : Known ps a) (p : Point V) (here : p ∈ ps) (free : (ahead m a p.delay ≡ true)) (least : (q : Point V) → q ∈ ps → ahead m a q.delay ≡ true → (earlier m p q ≡ true)) where
+  module _ (a : Option V) (known : Known ps a) (p : Point V) (here : p ∈ ps) (free : (ahead m a p.delay ≡ true)) (least : (q : Point V) → q ∈ ps → ahead m a q.delay ≡ true → (point_upto m p q ≡ true)) where
     -- what is ahead of p is ahead of what p is ahead of
     pub further : (v : V) → reach k v → not (m.below p.delay v) ≡ true → ahead m a v ≡ true
     further v r t = go a known free

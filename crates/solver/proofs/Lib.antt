@@ -1,5 +1,5 @@
+pub mod Made
 pub mod Widths
-pub mod Six
 pub mod Stage
 pub mod NoneLawful
 pub mod FrontSteps

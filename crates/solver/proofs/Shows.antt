@@ -5,7 +5,8 @@ use Rattle.pricing.specs.Measures.{Measure}
 use Rattle.frontier.specs.Curves.{curve}
 use Rattle.solver.specs.Front.{points_in, front}
 use Rattle.solver.specs.Trail.{path_to}
-use Rattle.solver.specs.Written.{blank_point, FilledShown}
+use Rattle.frontier.specs.Orders.{blank_point}
+use Rattle.solver.specs.Written.{FilledShown}
 use Rattle.solver.proofs.RowsCurve.{rows_curve}
 use Rattle.solver.proofs.Trails.{witnessed, chained_linked}
 

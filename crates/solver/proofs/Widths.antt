@@ -1,18 +1,12 @@
--- Turn by turn: the least width, and the least used width behind the first places. Assumes nothing.
-use Rattle.std.proofs.Common.{◌≡◌, ℕ, ◌+◌, ◌<◌, ◌≤◌, Bool, true, false, ◌⊎◌, List, get_or, sym, refl, ◌∙◌, subst, inl, inr, arith}
+-- Place by place: the least width, the least used width behind it, and the rows. Assumes nothing.
+use Rattle.std.proofs.Common.{◌≡◌, ℕ, ◌+◌, ◌<◌, ◌≤◌, min, Bool, true, false, ◌&&◌, ◌⊎◌, List, Some, None, Option, sym, ◌∙◌, subst, inl, inr, ap, arith}
+use Rattle.std.specs.Prelude.{MatchOption}
 use Rattle.std.proofs.lemmas.Bool.{both_ways, cases_lt, leb-true}
-use Rattle.pricing.specs.Allocations.{Book}
+use Rattle.pricing.specs.Allocations.{Book, is_step_of}
 use Rattle.pricing.proofs.Steps.{step_from}
-use Rattle.frontier.proofs.Members.{and_left, and_right}
-use Rattle.solver.specs.Least.{is_step, LeastWidth, Into}
-
--- a test that answers what holds
-pub is_true : {a b : Bool} → a ≡ b → a ≡ true → b ≡ true
-is_true e f = sym e ∙ f
-
--- a test that answers what does not hold
-pub is_false : {a b : Bool} → a ≡ b → a ≡ false → b ≡ true → ⊥
-is_false {a} {b} e f t = both_ways a f (e ∙ t)
+use Rattle.frontier.proofs.Members.{and_left, and_right, and_both}
+use Rattle.solver.specs.Least.{is_step, MayStand, AtMost, LeastWidth, used_at, NoneBelow, Behind, Way, Into}
+use Rattle.solver.specs.Options.{FirstOf}
 
 -- a step of a grid byte is at least 1
 pub step_low : (byte s : ℕ) → is_step byte s → 1 ≤ s
@@ -22,65 +16,87 @@ step_low byte s t = leb-true 1 s (and_left (lib.Dec.leb 1 s) (lib.Dec.leb s 6) (
 pub step_high : (byte s : ℕ) → is_step byte s → s ≤ 6
 step_high byte s t = leb-true s 6 (and_right (lib.Dec.leb 1 s) (lib.Dec.leb s 6) (step_from byte s t))
 
--- no smaller width may stand between two spaces
-abbrev pub NoWidth : Book → ℕ → ℕ → ℕ → ℕ → Type 0
-NoWidth book widths left right w = (v : ℕ) → v < w → is_step widths v → book left v right ≡ true → ⊥
+-- the two tests of a width in one
+abbrev pub stands : Book → ℕ → ℕ → ℕ → ℕ → Bool
+stands book widths left right w = is_step_of widths w && book left w right
 
-module _ (book : Book) (widths left right : ℕ) where
-  pub width_found : (w : ℕ) → w ≤ 6 → NoWidth book widths left right w → is_step widths w → book left w right ≡ true → LeastWidth book widths left right w
-  width_found w h none s t = record {
-    within = omega arith;
-    may = λ k. (s, t);
-    low = λ v a b. go v a b (cases_lt v w);
+-- the first width that passes both tests is the least
+pub least_found : (book : Book) (widths left right : ℕ) (r : Option ℕ) →
+    MatchOption r ((k : ℕ) → 1 ≤ k → k < 7 → stands book widths left right k ≡ false)
+    (λ w. (1 ≤ w) × (w < 7) × (stands book widths left right w ≡ true) × ((k : ℕ) → 1 ≤ k → k < w → stands book widths left right k ≡ false)) →
+    LeastWidth book widths left right r
+least_found book widths left right None none = record {
+  may = λ w e. absurd (cc);
+  low = λ w m. both_ways _ (none w (step_low widths w m.step) (let h = step_high widths w m.step in omega arith)) (and_both (is_step_of widths w) (book left w right) m.step m.may);
+}
+least_found book widths left right (Some b) (low, high, t, none) = record {
+  may = λ w e.
+      let same : b ≡ w = cc in
+      subst (λ (z : ℕ). MayStand book widths left right z) same
+      (record { step = and_left (is_step_of widths b) (book left b right) t; may = and_right (is_step_of widths b) (book left b right) t });
+  low = λ w m. go w m (cases_lt w b);
+}
+  where
+    go : (w : ℕ) → MayStand book widths left right w → (w < b) ⊎ (b ≤ w) → b ≤ w
+    go w m (inl k) = absurd (both_ways _ (none w (step_low widths w m.step) k) (and_both (is_step_of widths w) (book left w right) m.step m.may))
+    go w m (inr k) = k
+
+-- at most one is at most the other
+pub at_most_up : (o : Option ℕ) (m n : ℕ) → AtMost o m → m ≤ n → AtMost o n
+at_most_up None m n h k = h
+at_most_up (Some b) m n h k = omega arith
+
+-- the lesser of two numbers, where there are two
+abbrev pub lesser_of : Option ℕ → Option ℕ → Option ℕ
+lesser_of None b = b
+lesser_of (Some x) None = Some x
+lesser_of (Some x) (Some y) = Some (min x y)
+
+-- the lesser of two is at most what either is at most
+pub lesser_left : (a b : Option ℕ) (n : ℕ) → AtMost a n → AtMost (lesser_of a b) n
+lesser_left None b n h = absurd h
+lesser_left (Some x) None n h = h
+lesser_left (Some x) (Some y) n h = omega arith
+
+pub lesser_right : (a b : Option ℕ) (n : ℕ) → AtMost b n → AtMost (lesser_of a b) n
+lesser_right None b n h = h
+lesser_right (Some x) None n h = absurd h
+lesser_right (Some x) (Some y) n h = omega arith
+
+-- and is one of the two
+lesser_one : (a b : Option ℕ) (n : ℕ) → lesser_of a b ≡ Some n → (a ≡ Some n) ⊎ (b ≡ Some n)
+lesser_one None b n e = inr e
+lesser_one (Some x) None n e = inl e
+lesser_one (Some x) (Some y) n e = go (cases_lt x y)
+  where
+    go : (x < y) ⊎ (y ≤ x) → (Some x ≡ Some n) ⊎ (Some y ≡ Some n)
+    go (inl h) = let m : min x y ≡ x = omega arith in inl (sym (ap Some m) ∙ e)
+    go (inr h) = let m : min x y ≡ y = omega arith in inr (sym (ap Some m) ∙ e)
+
+-- the first of two by their order is the lesser
+pub lesser_first : (post : ℕ → ℕ → Bool → Type 0) → ((x y : ℕ) → post x y true → x ≤ y) → ((x y : ℕ) → post x y false → y ≤ x) →
+    (a b r : Option ℕ) → FirstOf post a b r → r ≡ lesser_of a b
+lesser_first post up down None b r h = h
+lesser_first post up down (Some x) None r h = h
+lesser_first post up down (Some x) (Some y) r (true, p, e) = let u = up x y p in let m : x ≡ min x y = omega arith in e ∙ ap Some m
+lesser_first post up down (Some x) (Some y) r (false, p, e) = let u = down x y p in let m : y ≡ min x y = omega arith in e ∙ ap Some m
+
+module _ (book : Book) (widths channel : ℕ) (row : List (Option ℕ)) (right : ℕ) where
+  -- one place more
+  pub into_more : (i : ℕ) (least used : Option ℕ) → Into book widths channel row right i least → Behind book widths channel (used_at row i) (i + 1) right used →
+      Into book widths channel row right (i + 1) (lesser_of least used)
+  into_more i least used was here = record {
+    way = λ u e. way u (lesser_one least used u e);
+    low = λ j h. low j (cases_lt j i) h;
   }
     where
-      go : (v : ℕ) → is_step widths v → book left v right ≡ true → (v < w) ⊎ (w ≤ v) → w ≤ v
-      go v a b (inl k) = absurd (none v k a b)
-      go v a b (inr k) = k
+      way : (u : ℕ) → (least ≡ Some u) ⊎ (used ≡ Some u) → Way book widths channel row right u
+      way u (inl e) = was.way u e
+      way u (inr e) = (i, here.way u e)
 
-  pub width_none : NoWidth book widths left right 7 → LeastWidth book widths left right 7
-  width_none none = record {
-    within = omega arith;
-    may = λ k. absurd (omega arith);
-    low = λ v a b. absurd (none v (let h = step_high widths v a in omega arith) a b);
-  }
-
-  pub no_start : NoWidth book widths left right 1
-  no_start v k a b = let h = step_low widths v a in omega arith
-
-module _ (book : Book) (widths channel : ℕ) (row : List ℕ) (right i best w : ℕ) (was : Into book widths channel row right i best) (least : LeastWidth book widths (i + 1) right w) where
-  low_more : (next : ℕ) → next ≤ best → ((v : ℕ) → is_step widths v → book (i + 1) v right ≡ true → get_or row i 0 + v + right ≤ channel → next ≤ get_or row i 0 + v + right) →
-      (j v : ℕ) → j < i + 1 → is_step widths v → book (j + 1) v right ≡ true → get_or row j 0 + v + right ≤ channel → next ≤ get_or row j 0 + v + right
-  low_more next less here j v h s t k = go (cases_lt j i)
-    where
-      go : (j < i) ⊎ (i ≤ j) → next ≤ get_or row j 0 + v + right
-      go (inl a) = let b = was.low j v a s t k in omega arith
-      go (inr a) =
-          let e : i ≡ j = omega arith in
-          let here' = subst (λ (z : ℕ). (book (z + 1) v right ≡ true) → get_or row z 0 + v + right ≤ channel → next ≤ get_or row z 0 + v + right) e (λ t' k'. here v s t' k') in
-          here' t k
-
-  pub into_none : 6 < w → Into book widths channel row right (i + 1) best
-  into_none h = record {
-    capped = was.capped;
-    way = was.way;
-    low = low_more best (omega arith) (λ v s t k. let a = least.low v s t in let b = step_high widths v s in absurd (omega arith));
-  }
-
-  pub into_stays : (channel < get_or row i 0 + w + right) ⊎ (best ≤ get_or row i 0 + w + right) → Into book widths channel row right (i + 1) best
-  into_stays h = record {
-    capped = was.capped;
-    way = was.way;
-    low = low_more best (omega arith) (λ v s t k. here v s t k h);
-  }
-    where
-      here : (v : ℕ) → is_step widths v → book (i + 1) v right ≡ true → get_or row i 0 + v + right ≤ channel → (channel < get_or row i 0 + w + right) ⊎ (best ≤ get_or row i 0 + w + right) → best ≤ get_or row i 0 + v + right
-      here v s t k (inl a) = let b = least.low v s t in absurd (omega arith)
-      here v s t k (inr a) = let b = least.low v s t in omega arith
-
-  pub into_taken : i < 6 → w ≤ 6 → get_or row i 0 + w + right ≤ channel → get_or row i 0 + w + right < best → Into book widths channel row right (i + 1) (get_or row i 0 + w + right)
-  into_taken six small room less = record {
-    capped = let a = was.capped in omega arith;
-    way = λ h. record { place = i; width = w; six = six; step = (least.may small).0; may = (least.may small).1; sum = refl; room = room };
-    low = low_more (get_or row i 0 + w + right) (omega arith) (λ v s t k. let b = least.low v s t in omega arith);
-  }
+      low : (j : ℕ) → (j < i) ⊎ (i ≤ j) → j < i + 1 → NoneBelow book widths channel (used_at row j) (j + 1) right (lesser_of least used)
+      low j (inl k) h = λ n w e m room. lesser_left least used (n + w + right) (was.low j k n w e m room)
+      low j (inr k) h =
+          let same : i ≡ j = omega arith in
+          subst (λ (z : ℕ). NoneBelow book widths channel (used_at row z) (z + 1) right (lesser_of least used)) same
+          (λ n w e m room. lesser_right least used (n + w + right) (here.low n w e m room))

@@ -1,22 +1,19 @@
 -- The curve taken point by point from the points of the last stage: after a point the next is the least in (power, delay) among
 -- those of smaller delay. Assumes nothing.
-use Rattle.std.specs.Prelude.{◌≡◌, ℕ, ◌+◌, ◌<◌, ◌≤◌, Bool, true, not, ◌&&◌, ◌||◌, List, map, length, get_or, Some, None, Option, ◌==◌, ◌≢◌, nat_lt, slice_index, slice_index_or}
+use Rattle.std.specs.Prelude.{◌≡◌, ℕ, ◌+◌, ◌<◌, ◌≤◌, Bool, true, false, cond, not, List, [], ◌∷◌, map, length, get_or, Some, None, Option, ◌≢◌, nat_lt, slice_index, slice_index_or}
 use Rattle.drawing.specs.Lists.{keep}
 use Rattle.drawing.specs.Plans.{Plan, Sound}
 use Rattle.pricing.specs.Allocations.{Book}
 use Rattle.pricing.specs.Measures.{Measure}
 use Rattle.frontier.specs.declared.records.Point.{Point}
 use Rattle.frontier.specs.declared.records.State.{State}
+use Rattle.frontier.specs.Orders.{blank_state, point_upto}
 use Rattle.frontier.specs.Lists.{◌∈◌, undominated, rising}
 use Rattle.frontier.specs.Points.{at_or_below}
 use Rattle.frontier.specs.Curves.{curve}
 use Rattle.frontier.specs.States.{kept_of, KeptRow}
 
 module _ {V : Type 0} where
-  -- a state of noughts, with the value of no wire
-  abbrev pub blank_state : V → State V
-  blank_state e = record { last = 0; used = 0; power = 0; delay = e; from = 0; width = 0 }
-
   -- the row i
   abbrev pub row_at : V → List (State V) → ℕ → State V
   row_at e rows i = slice_index_or rows i (blank_state e)
@@ -44,10 +41,6 @@ module _ {V : Type 0} (m : Measure V) where
   ahead None v = true
   ahead (Some u) v = not (m.below u v)
 
-  -- by power, then by delay
-  abbrev pub earlier : Point V → Point V → Bool
-  earlier p q = nat_lt p.power q.power || (p.power == q.power && m.below p.delay q.delay)
-
   -- what is of smaller delay than the last point
   abbrev pub still_ahead : Option V → List (Point V) → List (Point V)
   still_ahead o ps = keep (λ p. ahead o p.delay) ps
@@ -55,17 +48,6 @@ module _ {V : Type 0} (m : Measure V) where
   -- what of the curve is still to come after the delay o
   abbrev pub front : Option V → List (Point V) → List (Point V)
   front o ps = rising (λ p. p.power) (undominated (at_or_below m) (still_ahead o ps))
-
-  -- of the first rows the row r is the least of those ahead; r is past the end where none is
-  pub record Best (e : V) (rows : List (State V)) (o : Option V) (count : ℕ) (r : ℕ) : Type 0 where
-    pub within : r ≤ length rows
-    pub none : r ≡ length rows → (i : ℕ) → i < count → ahead o (row_at e rows i).delay ≢ true
-    pub taken : r < length rows → ahead o (row_at e rows r).delay ≡ true
-    pub least : r < length rows → (i : ℕ) → i < count → ahead o (row_at e rows i).delay ≡ true → earlier (point_in (row_at e rows r)) (point_in (row_at e rows i)) ≡ true
-
-  -- of all rows the row r is the least of those ahead
-  abbrev pub IsNext : V → List (State V) → Option V → ℕ → Type 0
-  IsNext e rows o r = Best e rows o (length rows) r
 
 -- the kept states of the last stage, in any order: what is taken from them is the curve
 abbrev pub RowsCurve : {V : Type 0} → Measure V → (ℕ → V → Type 0) → Type 0
@@ -84,6 +66,21 @@ module _ {V : Type 0} (e : V) (rows : List (State V)) where
     pub inside : (k : ℕ) → k < 7 → slice_index cuts k ≤ length rows
     pub sorted : (k i j : ℕ) → k < 6 → slice_index cuts k ≤ i → i ≤ j → j < slice_index cuts (k + 1) → (row_at e rows i).power ≤ (row_at e rows j).power
 
+-- a row, if there is one, is among the rows
+abbrev pub InRows : {V : Type 0} → List (State V) → Option ℕ → Type 0
+InRows rows None = Unit {0}
+InRows rows (Some i) = i < length rows
+
+-- what taking the next point says of those to come: there is none, or a row is the first, and the others are left
+abbrev pub Gives : {V : Type 0} → V → List (State V) → List (Point V) → Option ℕ → List (Point V) → Type 0
+Gives e rows to_come None left = to_come ≡ []
+Gives e rows to_come (Some r) left = (r < length rows) × (to_come ≡ point_in (row_at e rows r) ∷ left)
+
+-- there is a row, and it is of less power
+abbrev pub lower_row : {V : Type 0} → V → List (State V) → Option ℕ → ℕ → Bool
+lower_row e rows None power = false
+lower_row e rows (Some i) power = nat_lt (row_at e rows i).power power
+
 module _ {V : Type 0} (m : Measure V) (e : V) (rows : List (State V)) where
   -- the first row ahead from one place up to another
   pub record FirstAhead (o : Option V) (from to r : ℕ) : Type 0 where
@@ -92,19 +89,23 @@ module _ {V : Type 0} (m : Measure V) (e : V) (rows : List (State V)) where
     pub skipped : (i : ℕ) → from ≤ i → i < r → ahead m o (row_at e rows i).delay ≢ true
     pub here : r < to → ahead m o (row_at e rows r).delay ≡ true
 
-  -- a row is ahead, and from there up to a place power does not fall
-  pub record Tied (o : Option V) (from to : ℕ) : Type 0 where
-    pub some : from < to
-    pub inside : to ≤ length rows
-    pub here : ahead m o (row_at e rows from).delay ≡ true
-    pub sorted : (i j : ℕ) → from ≤ i → i ≤ j → j < to → (row_at e rows i).power ≤ (row_at e rows j).power
-
   -- the least of the rows ahead from one place up to another
   pub record LeastAhead (o : Option V) (from to r : ℕ) : Type 0 where
     pub low : from ≤ r
     pub high : r < to
     pub taken : ahead m o (row_at e rows r).delay ≡ true
-    pub least : (i : ℕ) → from ≤ i → i < to → ahead m o (row_at e rows i).delay ≡ true → earlier m (point_in (row_at e rows r)) (point_in (row_at e rows i)) ≡ true
+    pub least : (i : ℕ) → from ≤ i → i < to → ahead m o (row_at e rows i).delay ≡ true → point_upto m (point_in (row_at e rows r)) (point_in (row_at e rows i)) ≡ true
+
+  -- the same, if a row is ahead there
+  abbrev pub LeastIn : Option V → ℕ → ℕ → Option ℕ → Type 0
+  LeastIn o from to None = (i : ℕ) → from ≤ i → i < to → ahead m o (row_at e rows i).delay ≢ true
+  LeastIn o from to (Some r) = LeastAhead o from to r
+
+  -- the earlier of two rows by power, then by delay, where there are two
+  abbrev pub earlier_row : Option ℕ → Option ℕ → Option ℕ
+  earlier_row None b = b
+  earlier_row (Some x) None = Some x
+  earlier_row (Some x) (Some y) = cond (point_upto m (point_in (row_at e rows x)) (point_in (row_at e rows y))) (Some x) (Some y)
 
   -- how far each run is gone through: what lies behind is not ahead any more
   pub record Head (cuts : List ℕ) (o : Option V) (k h : ℕ) : Type 0 where
@@ -116,6 +117,13 @@ module _ {V : Type 0} (m : Measure V) (e : V) (rows : List (State V)) where
   pub record Heads (cuts : List ℕ) (o : Option V) (heads : List ℕ) : Type 0 where
     pub six : length heads ≡ 6
     pub each : (k : ℕ) → k < 6 → Head cuts o k (slice_index heads k)
+
+  -- the rows in their runs, and how far these are gone through
+  pub record Going (reach : ℕ → V → Type 0) (cuts heads : List ℕ) (o : Option V) : Type 0 where
+    pub reached : InReach reach (points_in rows)
+    pub known : Known (points_in rows) o
+    pub runs : Runs e rows cuts
+    pub gone : Heads cuts o heads
 
 -- rows in which the last space does not fall, nor the power among equals
 module _ {V : Type 0} (e : V) (rows : List (State V)) where
@@ -132,8 +140,3 @@ module _ {V : Type 0} (e : V) (rows : List (State V)) where
     pub within : c ≤ length rows
     pub below : (i : ℕ) → i < c → (row_at e rows i).last ≤ k
     pub above : (i : ℕ) → c ≤ i → i < length rows → k < (row_at e rows i).last
-
-  -- the first cuts
-  pub record Cuts (count : ℕ) (cuts : List ℕ) : Type 0 where
-    pub seven : length cuts ≡ 7
-    pub each : (k : ℕ) → k < count → Cut k (slice_index cuts k)

@@ -1,5 +1,5 @@
--- For each last space the least used width of a lawful allocation: six numbers, 1000 where there is none. Assumes nothing.
-use Rattle.std.specs.Prelude.{◌≡◌, ℕ, ◌+◌, ◌<◌, ◌≤◌, true, List, length, slice_index}
+-- For each last space the least used width of a lawful allocation, if there is one: a row of six places. Assumes nothing.
+use Rattle.std.specs.Prelude.{◌≡◌, ℕ, ◌+◌, ◌<◌, ◌≤◌, true, List, Some, None, Option, length, slice_index_or}
 use Rattle.drawing.specs.declared.words.Grid.{Grid}
 use Rattle.drawing.specs.Plans.{Plan}
 use Rattle.pricing.specs.Allocations.{Book, is_step_of}
@@ -11,51 +11,75 @@ use Rattle.frontier.specs.States.{Kept, states}
 abbrev pub is_step : ℕ → ℕ → Type 0
 is_step byte s = is_step_of byte s ≡ true
 
--- the least width between two spaces; 7 where no width may stand there
-pub record LeastWidth (book : Book) (widths left right w : ℕ) : Type 0 where
-  pub within : w ≤ 7
-  pub may : w ≤ 6 → is_step widths w × (book left w right ≡ true)
-  pub low : (v : ℕ) → is_step widths v → book left v right ≡ true → w ≤ v
+-- a width may stand between two spaces
+pub record MayStand (book : Book) (widths left right w : ℕ) : Type 0 where
+  pub step : is_step widths w
+  pub may : book left w right ≡ true
 
--- how a wire was put in: the place of the last space before it, and its width
-pub record Way (book : Book) (widths channel : ℕ) (row : List ℕ) (right used : ℕ) : Type 0 where
-  pub place : ℕ
+-- there is a number, and it is at most n
+abbrev pub AtMost : Option ℕ → ℕ → Type 0
+AtMost None n = ⊥
+AtMost (Some b) n = b ≤ n
+
+-- the least width between two spaces, if there is one
+pub record LeastWidth (book : Book) (widths left right : ℕ) (least : Option ℕ) : Type 0 where
+  pub may : (w : ℕ) → least ≡ Some w → MayStand book widths left right w
+  pub low : (w : ℕ) → MayStand book widths left right w → AtMost least w
+
+-- the used width at a place of a row, if there is one
+abbrev pub used_at : List (Option ℕ) → ℕ → Option ℕ
+used_at row i = slice_index_or row i None
+
+-- how a wire was put in: the used width before it, and its width
+pub record PutIn (book : Book) (widths channel : ℕ) (before : Option ℕ) (left right used : ℕ) : Type 0 where
+  pub was : ℕ
   pub width : ℕ
-  pub six : place < 6
-  pub step : is_step widths width
-  pub may : book (place + 1) width right ≡ true
-  pub sum : used ≡ slice_index row place + width + right
+  pub there : before ≡ Some was
+  pub stands : MayStand book widths left right width
+  pub sum : used ≡ was + width + right
   pub room : used ≤ channel
 
+-- no wire put in makes a used width below the least, if there is one
+abbrev pub NoneBelow : Book → ℕ → ℕ → Option ℕ → ℕ → ℕ → Option ℕ → Type 0
+NoneBelow book widths channel before left right least =
+    (was w : ℕ) → before ≡ Some was → MayStand book widths left right w → was + w + right ≤ channel → AtMost least (was + w + right)
+
+-- the least used width after one wire more behind one place, if one fits
+pub record Behind (book : Book) (widths channel : ℕ) (before : Option ℕ) (left right : ℕ) (least : Option ℕ) : Type 0 where
+  pub way : (used : ℕ) → least ≡ Some used → PutIn book widths channel before left right used
+  pub low : NoneBelow book widths channel before left right least
+
+-- how a wire was put in behind some place of a row
+abbrev pub Way : Book → ℕ → ℕ → List (Option ℕ) → ℕ → ℕ → Type 0
+Way book widths channel row right used = (i : ℕ) × PutIn book widths channel (used_at row i) (i + 1) right used
+
 -- the least used width with a given space after one wire more, looked for behind the first places
-pub record Into (book : Book) (widths channel : ℕ) (row : List ℕ) (right count best : ℕ) : Type 0 where
-  pub capped : best ≤ 1000
-  pub way : best < 1000 → Way book widths channel row right best
-  pub low : (i w : ℕ) → i < count → is_step widths w → book (i + 1) w right ≡ true → slice_index row i + w + right ≤ channel → best ≤ slice_index row i + w + right
+pub record Into (book : Book) (widths channel : ℕ) (row : List (Option ℕ)) (right count : ℕ) (least : Option ℕ) : Type 0 where
+  pub way : (used : ℕ) → least ≡ Some used → Way book widths channel row right used
+  pub low : (i : ℕ) → i < count → NoneBelow book widths channel (used_at row i) (i + 1) right least
 
--- no place of a row is above 1000
-abbrev pub Capped : List ℕ → Type 0
-Capped row = (i : ℕ) → i < 6 → slice_index row i ≤ 1000
+-- the used width of no wires with a first space, if the channel has room for it
+pub record FirstAt (spaces channel space : ℕ) (used : Option ℕ) : Type 0 where
+  pub is : (u : ℕ) → used ≡ Some u → is_step spaces space × (u ≡ space) × (space ≤ channel)
+  pub low : is_step spaces space → space ≤ channel → AtMost used space
 
--- the row of no wires, at the first places; 1000 beyond
-pub record First (spaces channel count : ℕ) (row : List ℕ) : Type 0 where
+-- the row of no wires
+pub record First (spaces channel : ℕ) (row : List (Option ℕ)) : Type 0 where
   pub six : length row ≡ 6
-  pub capped : Capped row
-  pub is : (i : ℕ) → i < 6 → slice_index row i < 1000 → is_step spaces (i + 1) × (slice_index row i ≡ i + 1) × (i + 1 ≤ channel)
-  pub low : (i : ℕ) → i < count → is_step spaces (i + 1) → i + 1 ≤ channel → slice_index row i ≤ i + 1
+  pub each : (i : ℕ) → i < 6 → FirstAt spaces channel (i + 1) (used_at row i)
 
--- the row of one wire more, at the first places; 1000 beyond
-pub record Pushed (book : Book) (grid : Grid) (channel : ℕ) (row : List ℕ) (count : ℕ) (next : List ℕ) : Type 0 where
+-- the least used width with a last space after one wire more, if the grid has the space and a wire fits
+pub record PushedAt (book : Book) (grid : Grid) (channel : ℕ) (row : List (Option ℕ)) (space : ℕ) (used : Option ℕ) : Type 0 where
+  pub allowed : (u : ℕ) → used ≡ Some u → is_step grid.spaces space
+  pub way : (u : ℕ) → used ≡ Some u → Way book grid.widths channel row space u
+  pub low : (i : ℕ) → is_step grid.spaces space → NoneBelow book grid.widths channel (used_at row i) (i + 1) space used
+
+-- the row of one wire more
+pub record Pushed (book : Book) (grid : Grid) (channel : ℕ) (row next : List (Option ℕ)) : Type 0 where
   pub six : length next ≡ 6
-  pub capped : Capped next
-  pub allowed : (i : ℕ) → i < 6 → slice_index next i < 1000 → is_step grid.spaces (i + 1)
-  pub way : (i : ℕ) → i < 6 → slice_index next i < 1000 → Way book grid.widths channel row (i + 1) (slice_index next i)
-  pub low : (i j w : ℕ) → i < count → j < 6 → is_step grid.spaces (i + 1) → is_step grid.widths w → book (j + 1) w (i + 1) ≡ true → slice_index row j + w + (i + 1) ≤ channel →
-      slice_index next i ≤ slice_index row j + w + (i + 1)
+  pub each : (i : ℕ) → i < 6 → PushedAt book grid channel row (i + 1) (used_at next i)
 
 -- the row of a plan
-pub record Least (book : Book) (d : Plan) (row : List ℕ) : Type 0 where
-  pub six : length row ≡ 6
-  pub capped : Capped row
-  pub has : (i : ℕ) → i < 6 → slice_index row i < 1000 → (s : Kept (Unit {0})) × (s ∈ states unit_measure book d) × (s.last ≡ i + 1) × (s.used ≡ slice_index row i)
-  pub low : (i : ℕ) → i < 6 → (s : Kept (Unit {0})) → s ∈ states unit_measure book d → s.last ≡ i + 1 → slice_index row i ≤ s.used
+pub record Least (book : Book) (d : Plan) (row : List (Option ℕ)) : Type 0 where
+  pub has : (i u : ℕ) → used_at row i ≡ Some u → (s : Kept (Unit {0})) × (s ∈ states unit_measure book d) × (s.last ≡ i + 1) × (s.used ≡ u)
+  pub low : (i : ℕ) (s : Kept (Unit {0})) → s ∈ states unit_measure book d → s.last ≡ i + 1 → AtMost (used_at row i) s.used

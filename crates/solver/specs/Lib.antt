@@ -3,3 +3,4 @@ pub mod Front
 pub mod Strips
 pub mod Trail
 pub mod Written
+pub mod Options

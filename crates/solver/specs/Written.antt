@@ -1,22 +1,19 @@
 -- The point table and the strip after the curve is written, and while it is. Assumes nothing.
-use Rattle.std.specs.Prelude.{◌≡◌, ℕ, suc, ◌-◌, ◌*◌, ◌<◌, ◌≤◌, true, List, ◌++◌, map, length, take, drop, replicate, None, Option, slice_index_or}
+use Rattle.std.specs.Prelude.{◌≡◌, ℕ, suc, ◌-◌, ◌*◌, ◌<◌, ◌≤◌, true, List, ◌++◌, map, length, take, drop, replicate, None, slice_index_or}
 use Rattle.drawing.specs.Plans.{Plan, Sound}
 use Rattle.pricing.specs.Allocations.{Allocation, Book, lawful}
 use Rattle.pricing.specs.Measures.{Measure}
 use Rattle.frontier.specs.declared.records.Point.{Point}
 use Rattle.frontier.specs.declared.records.State.{State}
+use Rattle.frontier.specs.Orders.{blank_point}
 use Rattle.frontier.specs.Points.{point_of}
 use Rattle.frontier.specs.Curves.{curve}
 use Rattle.frontier.specs.States.{kept_of, KeptRow}
-use Rattle.solver.specs.Front.{row_at, point_in, points_in, Known, front}
+use Rattle.solver.specs.Front.{row_at, point_in, points_in, front}
 use Rattle.solver.specs.Strips.{row_bytes}
 use Rattle.solver.specs.Trail.{path_to, Chained}
 
 module _ {V : Type 0} where
-  -- a point of no power and the value of no wire
-  abbrev pub blank_point : V → Point V
-  blank_point e = record { power = 0; delay = e }
-
   -- the row i of the strip is the witness of a row of the last stage that has the point's price
   pub record HasWitness (e : V) (table : List (State V)) (first wires : ℕ) (all_points : List (Point V)) (strip : List ℕ) (i : ℕ) : Type 0 where
     pub slot : ℕ
@@ -32,11 +29,6 @@ module _ {V : Type 0} where
     pub long : length strip ≡ room
     pub witness : (i : ℕ) → i < n → HasWitness e table first wires all_points strip i
     pub rest_blank : drop (49 * n) strip ≡ replicate (room - 49 * n) 0
-
-  -- the first n points of the front are gone through, and what is ahead of the last of them is to come
-  pub record Partly (m : Measure V) (rows : List (State V)) (n : ℕ) (after : Option V) : Type 0 where
-    pub known : Known (points_in rows) after
-    pub to_come : drop n (front m None (points_in rows)) ≡ front m after (points_in rows)
 
 -- what solve promises of the point table and the strip, in the subject's words
 pub record Shown {V : Type 0} (m : Measure V) (e : V) (book : Book) (d : Plan) (n slots room : ℕ) (points : List (Point V)) (strip : List ℕ) : Type 0 where

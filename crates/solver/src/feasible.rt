@@ -1,92 +1,98 @@
 //! Whether any allocation is lawful, found with six numbers: for each last space the least used width of a partial allocation.
-ghost use Rattle.std.specs.Prelude.{◌≡◌, ℕ, ◌<◌, ◌≤◌, true, not, length, slice_index};
+ghost use Rattle.std.specs.Prelude.{◌≡◌, ◌≤◌, Bool, true, not, length, is_some};
+ghost use Rattle.std.specs.List.{list_any};
 ghost use Rattle.drawing.specs.Shown.{plan_of};
 ghost use Rattle.pricing.specs.Allocations.{Allocation, lawful};
 ghost use Rattle.frontier.specs.Points.{lawful_allocations};
 ghost use Rattle.frontier.specs.Refusals.{none_of};
-ghost use Rattle.solver.specs.Least.{LeastWidth, Into, Capped, First, Pushed};
+ghost use Rattle.solver.specs.Least.{LeastWidth, Behind, Into, FirstAt, First, PushedAt, Pushed};
 
+use crate::options::first_of_two;
 use drawing::{Drawing, Grid};
 use pricing::in_grid;
 use rules::RuleBook;
+use std::array;
 
-// Stands for no partial allocation: more than any channel.
-const NONE: u32 = 1000;
-
-// The least width that a book allows between two spaces; 7 where it allows none.
-fn least_width<B: RuleBook>(book: &B, widths: u8, left: u8, right: u8) -> u8
-    ensures { LeastWidth (B.RuleBook.admits book.now) widths left right result }
-{
-    for w in 1..7u8 {
-        if in_grid(widths, w) && book.allows(left, w, right) {
-            return w;
-        }
-    }
-    7
+// What a wire more is put in by: the book, the grid and the room of a drawing.
+#[derive(Drop)]
+struct Setting<'a, B> {
+    book: &'a B,
+    grid: Grid,
+    channel: u32,
 }
 
-// The least used width that ends in the space `right` after one wire more.
-fn least_into<B: RuleBook>(book: &B, widths: u8, channel: u32, row: &[u32], right: u8) -> u32
-    requires six { length row.now ≡ 6 }
-    requires capped { Capped row.now }
-    requires space { right ≤ 6 }
-    ensures { Into (B.RuleBook.admits book.now) widths channel row.now right 6 result }
-{
-    let mut best = NONE;
-    for i in 0..6usize {
-        let w = least_width(book, widths, i as u8 + 1, right);
-        if w <= 6 {
-            let used = row[i] + w as u32 + right as u32;
-            if used <= channel && used < best {
-                best = used;
-            }
+impl<'a, B: RuleBook> Setting<'a, B> {
+    // The least width that the book allows between two spaces, if it allows one.
+    fn least_width(&self, left: u8, right: u8) -> Option<u8>
+        ensures { LeastWidth (B.RuleBook.admits self.now.book.now) self.now.grid.widths left right result }
+    {
+        (1..7u8).find(|w| in_grid(self.grid.widths, *w) && self.book.allows(left, *w, right))
+    }
+
+    // The used width after one wire more behind a space, if one fits.
+    fn used_behind(&self, before: Option<u32>, left: u8, right: u8) -> Option<u32>
+        ensures { Behind (B.RuleBook.admits self.now.book.now) self.now.grid.widths self.now.channel before left right result }
+    {
+        let channel = self.channel;
+        let width = self.least_width(left, right)?;
+        let used = before?.checked_add(u32::from(width) + u32::from(right))?;
+        if used <= channel { Some(used) } else { None }
+    }
+
+    // The least used width that ends in the space `right` after one wire more, if one fits.
+    fn least_into(&self, row: &[Option<u32>; 6], right: u8) -> Option<u32>
+        ensures { Into (B.RuleBook.admits self.now.book.now) self.now.grid.widths self.now.channel row.now right (length row.now) result }
+    {
+        let mut least = None;
+        for (i, before) in row.iter().enumerate() {
+            let used = self.used_behind(*before, i as u8 + 1, right);
+            least = first_of_two(least, used, |x, y| x <= y);
+        }
+        least
+    }
+
+    // The least used width with a last space after one wire more, if the grid has the space and a wire fits.
+    fn next_used(&self, row: &[Option<u32>; 6], space: u8) -> Option<u32>
+        ensures { PushedAt (B.RuleBook.admits self.now.book.now) self.now.grid self.now.channel row.now space result }
+    {
+        if in_grid(self.grid.spaces, space) {
+            self.least_into(row, space)
+        } else {
+            None
         }
     }
-    best
+
+    // The row of one wire more.
+    fn push_row(&self, row: &[Option<u32>; 6]) -> [Option<u32>; 6]
+        ensures { Pushed (B.RuleBook.admits self.now.book.now) self.now.grid self.now.channel row.now result }
+    {
+        array::from_fn(|i| self.next_used(row, i as u8 + 1))
+    }
 }
 
-// The row of no wires: each first space that the channel has room for.
-fn first_row(spaces: u8, channel: u32) -> [u32; 6]
-    ensures { First spaces channel 6 result }
+// The used width of no wires with a first space, if the channel has room for it.
+fn first_used(spaces: u8, channel: u32, space: u8) -> Option<u32>
+    ensures { FirstAt spaces channel space result }
 {
-    let mut row = [NONE; 6];
-    for i in 0..6usize {
-        let space = i as u8 + 1;
-        if in_grid(spaces, space) && space as u32 <= channel {
-            row[i] = space as u32;
-        }
+    if in_grid(spaces, space) && u32::from(space) <= channel {
+        Some(u32::from(space))
+    } else {
+        None
     }
-    row
 }
 
-// The row of one wire more.
-fn push_row<B: RuleBook>(book: &B, grid: Grid, channel: u32, row: &[u32]) -> [u32; 6]
-    requires six { length row.now ≡ 6 }
-    requires capped { Capped row.now }
-    ensures { Pushed (B.RuleBook.admits book.now) grid channel row.now 6 result }
+// The row of no wires.
+fn first_row(spaces: u8, channel: u32) -> [Option<u32>; 6]
+    ensures { First spaces channel result }
 {
-    let mut next = [NONE; 6];
-    for i in 0..6usize {
-        let space = i as u8 + 1;
-        if in_grid(grid.spaces, space) {
-            next[i] = least_into(book, grid.widths, channel, row, space);
-        }
-    }
-    next
+    array::from_fn(|i| first_used(spaces, channel, i as u8 + 1))
 }
 
 // Whether some place of a row has a used width.
-fn some_below(row: &[u32]) -> bool
-    requires { length row.now ≡ 6 }
-    ensures found { result ≡ true → (i : ℕ) × (i < 6) × (slice_index row.now i < 1000) }
-    ensures each { (i : ℕ) → i < 6 → slice_index row.now i < 1000 → result ≡ true }
+fn some_fits(row: &[Option<u32>; 6]) -> bool
+    ensures { result ≡ list_any is_some row.now }
 {
-    for i in 0..6usize {
-        if row[i] < NONE {
-            return true;
-        }
-    }
-    false
+    row.iter().any(|used| used.is_some())
 }
 
 // Whether some allocation is lawful, whatever its widths and spaces.
@@ -98,10 +104,14 @@ pub fn fits<B: RuleBook>(drawing: &Drawing, book: &B) -> bool
 {
     let grid = drawing.grid();
     let channel = drawing.channel();
-    let count = drawing.wires().len();
+    let setting = Setting {
+        book,
+        grid,
+        channel,
+    };
     let mut row = first_row(grid.spaces, channel);
-    for j in 0..count {
-        row = push_row(book, grid, channel, &row);
+    'rows: for _ in drawing.wires() {
+        row = setting.push_row(&row);
     }
-    some_below(&row)
+    some_fits(&row)
 }

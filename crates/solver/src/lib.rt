@@ -1,9 +1,9 @@
 //! The ends of a solve: whether any allocation is lawful, and the curve with its witnesses from the states of the last stage.
 #![tactic(auto)]
 
-mod blank;
 pub mod feasible;
 mod finish;
+mod options;
 mod points;
 mod witness;
 

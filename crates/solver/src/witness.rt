@@ -8,11 +8,12 @@ use frontier::State;
 use measures::DelayMeasure;
 
 // Writes the widths and spaces on the way back from a row of a stage into a part of 49 noughts.
+// Kept: a state names the state that it extends by its place, since both stand in one lent table.
 fn trace<M: DelayMeasure>(table: &[State<M::Value>], stage: usize, slot: usize, part: &mut [u8])
-    requires safe { Safe M.DelayMeasure.empty table.now stage slot }
+    requires safe { Safe M.DelayMeasure.EMPTY table.now stage slot }
     requires few { stage ≤ 24 }
     requires noughts { part.old ≡ replicate 49 0 }
-    ensures { part.new ≡ row_bytes (path_to M.DelayMeasure.empty table.now stage slot) }
+    ensures { part.new ≡ row_bytes (path_to M.DelayMeasure.EMPTY table.now stage slot) }
 {
     let last = table[slot].last;
     if stage == 0 {
@@ -34,10 +35,10 @@ pub(crate) fn write_witness<M: DelayMeasure>(
     strip: &mut [u8],
     row: usize,
 )
-    requires safe { Safe M.DelayMeasure.empty table.now wires slot }
+    requires safe { Safe M.DelayMeasure.EMPTY table.now wires slot }
     requires few { wires ≤ 24 }
     requires room { 49 * row + 49 ≤ length strip.old }
-    ensures { strip.new ≡ take (49 * row) strip.old ++ (row_bytes (path_to M.DelayMeasure.empty table.now wires slot) ++ drop (49 * row + 49) strip.old) }
+    ensures { strip.new ≡ take (49 * row) strip.old ++ (row_bytes (path_to M.DelayMeasure.EMPTY table.now wires slot) ++ drop (49 * row + 49) strip.old) }
 {
     let from = 49 * row;
     let part = &mut strip[from..from + 49];
@@ -46,15 +47,11 @@ pub(crate) fn write_witness<M: DelayMeasure>(
 }
 
 // The way back from a row of the last stage is a lawful allocation with the row's power and delay.
-pub(crate) fn trail_is_lawful<M: DelayMeasure>() -> u8
-    ensures { (m : M) → TrailLawful (meaning M.DelayMeasure m) M.DelayMeasure.empty }
-{
-    0
-}
+pub(crate) fn trail_is_lawful<M: DelayMeasure>()
+    ensures { (m : M) → TrailLawful (meaning M.DelayMeasure m) M.DelayMeasure.EMPTY }
+{}
 
 // Every row of a chained table is linked, and its way back stays in the table.
-pub(crate) fn chain_is_linked<M: DelayMeasure>() -> u8
-    ensures { (m : M) → ChainLinked (meaning M.DelayMeasure m) M.DelayMeasure.empty }
-{
-    0
-}
+pub(crate) fn chain_is_linked<M: DelayMeasure>()
+    ensures { (m : M) → ChainLinked (meaning M.DelayMeasure m) M.DelayMeasure.EMPTY }
+{}

@@ -1,6 +1,6 @@
 -- From the kept states of one stage to those of the next. Assumes nothing.
-use Rattle.std.proofs.Common.{◌≡◌, ℕ, suc, ◌+◌, ◌-◌, ◌<◌, ◌≤◌, true, ◌&&◌, eqb, ltb, leb, ◌↔◌, List, map, length, take, drop, Some, None, Option, sym, ap, ◌∙◌, subst, arith, length-drop, length-take, get_or-drop, get_or-take}
-use Rattle.std.proofs.lemmas.List.{same_lists}
+use Rattle.std.proofs.Common.{◌≡◌, ℕ, suc, ◌+◌, ◌-◌, ◌<◌, ◌≤◌, true, ◌&&◌, eqb, ltb, leb, ◌↔◌, List, map, length, take, drop, Some, None, sym, ap, ◌∙◌, subst, arith, length-take}
+use Rattle.std.proofs.lemmas.List.{drop-take, take-take}
 use Rattle.std.proofs.lemmas.Bool.{leb-true, le-leb, ltb-false, or_parts}
 use Rattle.drawing.specs.declared.words.Grid.{Grid}
 use Rattle.drawing.specs.declared.words.Wire.{Wire}
@@ -14,12 +14,13 @@ use Rattle.pricing.specs.WirePrices.{wire_delay, wire_power}
 use Rattle.pricing.proofs.Limits.{power_small}
 use Rattle.frontier.specs.declared.records.State.{State}
 use Rattle.frontier.specs.Lists.{◌∈◌, Fresh, each, unbeaten, undominated}
+use Rattle.frontier.specs.Orders.{upto}
 use Rattle.frontier.specs.States.{Kept, kept_of, first, state_below, kept, KeptRow}
 use Rattle.frontier.specs.Stages.{extended, extensions}
 use Rattle.frontier.proofs.Members.{and_right, and_both, all_in, keep_in}
 use Rattle.frontier.proofs.Reach.{delay_small, limited_wires}
 use Rattle.frontier.proofs.Counts.{distinct_fresh, row_next_holds, kept_counted_holds}
-use Rattle.stages.specs.Table.{laid_as, Step, rows, blank, slot, at, upto, Task, Made, all_offers, Staged}
+use Rattle.stages.specs.Table.{laid_as, Step, rows, blank, slot, at, Task, Made, all_offers, Next, Outnumber}
 use Rattle.stages.specs.Stage.{Course, Fits, AheadOf, Onward}
 use Rattle.stages.proofs.Heads.{read_front}
 use Rattle.stages.proofs.Places.{at_member, orders, offers_good}
@@ -36,18 +37,13 @@ three {l} {w} {r} hl hw hr = and_both (step l) (step w && step r) (one l hl) (an
     one n h = and_both (leb 1 n) (leb n 6) (le-leb 1 n h.0) (le-leb n 6 h.1)
 
 -- the front holds the stage
-front_part : {A : Type 0} (t : List A) (a b : ℕ) → a ≤ b → b ≤ length t → take (b - a) (drop a (take b t)) ≡ take (b - a) (drop a t)
-front_part t a b low high =
-    let tb : length (take b t) ≡ b = simp length-take (omega arith) in
-    let xs = take (b - a) (drop a (take b t)) in
-    let ex : length xs ≡ b - a = simp (length-take, length-drop) (omega arith) in
-    let ey : length (take (b - a) (drop a t)) ≡ b - a = simp (length-take, length-drop) (omega arith) in
-    same_lists xs (take (b - a) (drop a t)) (ex ∙ sym ey) (λ k d h.
-    let l : k < b - a = omega arith in
-    let l' : a + k < b = omega arith in
-    get_or-take (b - a) (drop a (take b t)) k d l ∙ get_or-drop a (take b t) k d ∙ get_or-take b t (a + k) d l' ∙ sym (get_or-take (b - a) (drop a t) k d l ∙ get_or-drop a t k d))
+front_part : {A : Type 0} (t : List A) (a b : ℕ) → a ≤ b → take (b - a) (drop a (take b t)) ≡ take (b - a) (drop a t)
+front_part t a b low =
+    let n = b - a in
+    let e : b ≡ a + n = omega arith in
+    ap (λ (z : ℕ). take n (drop a (take z t))) e ∙ ap (take n) (drop-take a n t) ∙ take-take n n (drop a t) (omega arith)
 
-module _ {V : Type 0} (m : Measure V) {reach : ℕ → V → Type 0} (laws : Laws m.empty m.made m.joined m.below reach) (book : Book) (w : Course) (grid : Grid) (channel : ℕ) (q : Wire) (t : List (State V)) (a b : ℕ)
+module _ {V : Type 0} {m : Measure V} {reach : ℕ → V → Type 0} (laws : Laws m.empty m.made m.joined m.below reach) {book : Book} {w : Course} {grid : Grid} {channel : ℕ} {q : Wire} {t : List (State V)} {a b : ℕ}
     (go : AheadOf m reach book w grid channel q t a b) where
   -- the plan
   abbrev d : Plan
@@ -87,7 +83,7 @@ module _ {V : Type 0} (m : Measure V) {reach : ℕ → V → Type 0} (laws : Law
 
   -- the row of the stage, in the front
   row_front : KeptRow m book (first j d) (rows (take b t) a b)
-  row_front = subst (λ (z : List (State V)). KeptRow m book (first j d) (map kept_of z)) (sym (front_part t a b go.stage.low go.stage.high)) go.stage.row
+  row_front = subst (λ (z : List (State V)). KeptRow m book (first j d) (map kept_of z)) (sym (front_part t a b go.stage.low)) go.stage.row
 
   -- the unbeaten offers
   abbrev best : Grid → ℕ → List (Kept V)
@@ -132,10 +128,13 @@ module _ {V : Type 0} (m : Measure V) {reach : ℕ → V → Type 0} (laws : Law
       } in
       subst (λ (z : Kept V). Fits m reach book channel (suc j) z) (sym made.is) f
 
-  -- the next stage is made, or out of room
-  pub onward_of : (t' : List (State V)) (r : Option ℕ) → Staged m book grid channel q (take b t) a b t' r → Onward m reach book w grid channel q t t' a b r
-  onward_of t' None h = subst (λ (n : ℕ). length t' - b < n) counted h
-  onward_of t' (Some end) (same, n) = (
+  -- the next stage is out of room
+  pub onward_full : (t' : List (State V)) → Outnumber m book grid channel q (take b t) a b (length t' - b) → Onward m reach book w grid channel q t t' a b None
+  onward_full t' h = subst (λ (n : ℕ). length t' - b < n) counted h
+
+  -- the next stage is made
+  pub onward_of : (t' : List (State V)) (end : ℕ) → take b t' ≡ take b t → Next m book grid channel q (take b t) a b t' end → Onward m reach book w grid channel q t t' a b (Some end)
+  onward_of t' end same n = (
     same,
     record {
       low = n.low;

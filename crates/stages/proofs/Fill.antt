@@ -1,6 +1,5 @@
 -- The turn of one space, from its beginning to its end. Assumes nothing.
-use Rattle.std.proofs.Common.{◌≡◌, ℕ, ◌+◌, ◌-◌, ◌*◌, ◌/◌, ◌%◌, ◌<◌, ◌≤◌, true, not, leb, List, length, get_or, take, set, None, sum_by, sym, refl, ap, ◌∙◌, subst, inl, inr, arith, length-take}
-use Rattle.std.proofs.lemmas.List.Sums.{sum_by-set}
+use Rattle.std.proofs.Common.{◌≡◌, ℕ, ◌+◌, ◌-◌, ◌*◌, ◌/◌, ◌%◌, ◌<◌, ◌≤◌, true, leb, List, length, get_or, take, None, sym, refl, ap, ◌∙◌, subst, arith, length-take}
 use Rattle.drawing.specs.declared.words.Grid.{Grid}
 use Rattle.drawing.specs.declared.words.Wire.{Wire}
 use Rattle.measures.specs.Laws.{Laws}
@@ -8,24 +7,15 @@ use Rattle.pricing.specs.Allocations.{Book, is_step_of}
 use Rattle.pricing.specs.Measures.{Measure}
 use Rattle.frontier.specs.declared.records.State.{State}
 use Rattle.frontier.proofs.Members.{and_left}
-use Rattle.stages.specs.Table.{Opened, Moved, blank, at, Standing, Head, Least, Task, Offered, Next, Turn, Between}
-use Rattle.stages.proofs.Sift.{last_or, sift_start, sift_open, sift_close}
+use Rattle.stages.specs.Table.{Opened, blank, at, Standing, Head, Least, Task, Offered, Next, Turn, Between}
+use Rattle.stages.proofs.Sift.{sift_start, sift_open, sift_close}
 use Rattle.stages.proofs.Heads.{read_front}
 use Rattle.stages.proofs.Places.{next}
 
--- the streams grow shorter
-pub less_left : (heads heads' : List ℕ) (k b : ℕ) → k < length heads → Moved heads heads' k b → sum_by (λ (h : ℕ). b - h) heads' < sum_by (λ (h : ℕ). b - h) heads
-less_left heads heads' k b lt mv =
-    let f : ℕ → ℕ = λ h. b - h in
-    let e = sum_by-set f heads k mv.to 0 lt in
-    let less : b - mv.to < b - get_or heads k 0 = omega (arith, mv.on, mv.high) in
-    let sums : sum_by f (set heads k mv.to) < sum_by f heads = omega (arith, e) in
-    subst (λ (z : List ℕ). sum_by f z < sum_by f heads) (sym mv.is) sums
-
-module _ {V : Type 0} (m : Measure V) {reach : ℕ → V → Type 0} (laws : Laws m.empty m.made m.joined m.below reach) (book : Book) (grid : Grid) (channel : ℕ) (q : Wire) (a b : ℕ) where
+module _ {V : Type 0} {m : Measure V} {channel : ℕ} {q : Wire} {t t₁ : List (State V)} {a b : ℕ} where
   -- the front stays, so the task stays
-  pub task_again : (t t₁ : List (State V)) → Task m reach channel q t a b → take b t₁ ≡ take b t → length t₁ ≡ length t → Task m reach channel q t₁ a b
-  task_again t t₁ task e el = record {
+  pub task_again : {reach : ℕ → V → Type 0} → Task m reach channel q t a b → take b t₁ ≡ take b t → length t₁ ≡ length t → Task m reach channel q t₁ a b
+  task_again {reach} task e el = record {
     fits = task.fits;
     narrow = task.narrow;
     low = task.low;
@@ -34,18 +24,19 @@ module _ {V : Type 0} (m : Measure V) {reach : ℕ → V → Type 0} (laws : Law
   }
 
   -- the same of a turn
-  pub turn_again : (t t₁ : List (State V)) (s : ℕ) (heads : List ℕ) (end : ℕ) → Turn m book grid channel q (take b t) a b s heads t₁ end → Turn m book grid channel q (take b t₁) a b s heads t₁ end
-  turn_again t t₁ s heads end turn = subst (λ (z : List (State V)). Turn m book grid channel q z a b s heads t₁ end) (sym turn.front) turn
+  pub turn_again : {book : Book} {grid : Grid} {s : ℕ} {heads : List ℕ} {end : ℕ} → Turn m book grid channel q t a b s heads t₁ end → Turn m book grid channel q (take b t₁) a b s heads t₁ end
+  turn_again {book} {grid} {s} {heads} {end} turn = subst (λ (z : List (State V)). Turn m book grid channel q z a b s heads t₁ end) (sym turn.front) turn
 
   -- and between turns
-  pub between_again : (t t₁ : List (State V)) (s end : ℕ) → Between m book grid channel q (take b t) a b s t₁ end → Between m book grid channel q (take b t₁) a b s t₁ end
-  between_again t t₁ s end h = subst (λ (z : List (State V)). Between m book grid channel q z a b s t₁ end) (sym h.front) h
+  pub between_again : {book : Book} {grid : Grid} {s end : ℕ} → Between m book grid channel q t a b s t₁ end → Between m book grid channel q (take b t₁) a b s t₁ end
+  between_again {book} {grid} {s} {end} h = subst (λ (z : List (State V)). Between m book grid channel q z a b s t₁ end) (sym h.front) h
 
-  module _ (t : List (State V)) (task : Task m reach channel q t a b) (s : ℕ) where
+module _ {V : Type 0} {m : Measure V} {reach : ℕ → V → Type 0} (laws : Laws m.empty m.made m.joined m.below reach) {book : Book} {grid : Grid} {channel : ℕ} {q : Wire} {a b : ℕ} where
+  module _ {t : List (State V)} (task : Task m reach channel q t a b) {s : ℕ} where
     -- the turn of a space begins
-    pub open_turn : (heads : List ℕ) → length heads ≡ 36 → (start : ℕ) → Between m book grid channel q (take b t) a b s t start →
+    pub open_turn : {heads : List ℕ} → length heads ≡ 36 → {start : ℕ} → Between m book grid channel q (take b t) a b s t start →
         ((k : ℕ) → k < 36 → Opened book grid t a b s k (get_or heads k 0)) → Turn m book grid channel q (take b t) a b s heads t start
-    open_turn heads long start B opened = record {
+    open_turn {heads} long {start} B opened = record {
       sifted = sift_open m laws book grid channel q task.fits (take b t) a b task.standing s heads long heads_fit t start B.sifted none;
       heads_fit = heads_fit;
       lawful = λ k lt. (opened k lt).lawful;
@@ -73,9 +64,9 @@ module _ {V : Type 0} (m : Measure V) {reach : ℕ → V → Type 0} (laws : Law
             (opened kk small).none i (blank m) o.low h (lasts i o.high ∙ sym el) (subst (λ (z : ℕ). is_step_of grid.widths z ≡ true) (sym ew) o.width_in) admits'
 
     -- the turn of a space ends
-    pub close_turn : (heads : List ℕ) → length heads ≡ 36 → (end : ℕ) → Turn m book grid channel q (take b t) a b s heads t end →
+    pub close_turn : {heads : List ℕ} → length heads ≡ 36 → {end : ℕ} → Turn m book grid channel q (take b t) a b s heads t end →
         Least m q (take b t) b heads s 36 None → Between m book grid channel q (take b t) a b (s + 1) t end
-    close_turn heads long end turn least = record {
+    close_turn {heads} long {end} turn least = record {
       sifted = sift_close m laws book grid channel q task.fits (take b t) a b task.standing s heads long turn.heads_fit t end turn.sifted least;
       earlier = λ k h i. let l = turn.sifted.lasts k h i in omega arith;
       low = turn.low;
@@ -83,38 +74,20 @@ module _ {V : Type 0} (m : Measure V) {reach : ℕ → V → Type 0} (laws : Law
       front = refl;
     }
 
-    -- a space that is not in the grid
-    pub pass_turn : (end : ℕ) → Between m book grid channel q (take b t) a b s t end → (is_step_of grid.spaces s ≡ true → ⊥) → Between m book grid channel q (take b t) a b (s + 1) t end
-    pass_turn end B not = let S = B.sifted in record {
-      sifted = record {
-        made = S.made;
-        alone = S.alone;
-        covered = λ i w r o d. S.covered i w r o (elim (last_or r s d) [ inl h ↦ h | inr e ↦ absurd (not (subst (λ (z : ℕ). is_step_of grid.spaces z ≡ true) e o.space_in)) ]);
-        fresh = S.fresh;
-        lasts = λ k h i. let l = S.lasts k h i in omega arith;
-        later = λ k h i e. let l = S.lasts k h i in absurd (omega arith);
-        ordered = S.ordered;
-      };
-      earlier = λ k h i. let l = B.earlier k h i in omega arith;
-      low = B.low;
-      high = B.high;
-      front = refl;
-    }
-
-    -- before the first turn
-    pub start_turn : Between m book grid channel q (take b t) a b 1 t b
-    start_turn = record {
-      sifted = sift_start m laws book grid channel q task.fits (take b t) a b task.standing t;
-      earlier = λ k h i. absurd (omega arith);
-      low = omega arith;
-      high = task.high;
-      front = refl;
-    }
+  -- before the first turn
+  pub start_turn : {t : List (State V)} → Task m reach channel q t a b → Between m book grid channel q (take b t) a b 1 t b
+  start_turn {t} task = record {
+    sifted = sift_start m laws book grid channel q task.fits (take b t) a b task.standing t;
+    earlier = λ k h i. absurd (omega arith);
+    low = omega arith;
+    high = task.high;
+    front = refl;
+  }
 
   -- after the last turn
-  pub stage_done : (t t₁ : List (State V)) (s end : ℕ) → s ≡ 7 → take b t₁ ≡ take b t → Task m reach channel q t₁ a b → Between m book grid channel q (take b t₁) a b s t₁ end →
+  pub stage_done : (t : List (State V)) {t₁ : List (State V)} {s end : ℕ} → s ≡ 7 → take b t₁ ≡ take b t → Task m reach channel q t₁ a b → Between m book grid channel q (take b t₁) a b s t₁ end →
       Next m book grid channel q (take b t) a b t₁ end
-  stage_done t t₁ s end es e task B =
+  stage_done t {t₁} {s} {end} es e task B =
       let B₇ : Between m book grid channel q (take b t₁) a b 7 t₁ end = subst (λ (z : ℕ). Between m book grid channel q (take b t₁) a b z t₁ end) es B in
       let long : b ≤ length (take b t₁) = simp length-take (omega (arith, task.high)) in
       subst (λ (z : List (State V)). Next m book grid channel q z a b t₁ end) e

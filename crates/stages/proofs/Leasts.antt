@@ -1,44 +1,16 @@
 -- The least delays by used width: they tell what is beaten. Assumes nothing.
-use Rattle.std.proofs.Common.{◌≡◌, ℕ, ◌+◌, ◌<◌, ◌≤◌, Bool, true, false, cond, ltb, ◌≢◌, ◌⊎◌, List, length, get_or, set, replicate, Some, None, Option, sym, refl, ap, ◌∙◌, subst, inl, inr, arith, get_or-set_other, get_or-set_same}
+use Rattle.std.proofs.Common.{◌≡◌, ℕ, ◌+◌, ◌<◌, ◌≤◌, Bool, true, false, cond, ◌⊎◌, List, get_or, replicate, Some, None, Option, sym, refl, ap, ◌∙◌, subst, inl, inr, arith}
 use lib.ListN.{get_or-replicate}
-use Rattle.std.proofs.lemmas.List.{get_or_default}
 use Rattle.std.proofs.lemmas.Bool.{both_ways, lt-ltb, le-ltb, cases_lt}
-use Rattle.drawing.specs.Lists.{all}
 use Rattle.measures.specs.Laws.{Laws}
 use Rattle.pricing.specs.Measures.{Measure}
 use Rattle.frontier.specs.declared.records.State.{State}
+use Rattle.frontier.specs.Orders.{upto}
 use Rattle.frontier.specs.States.{Kept}
-use Rattle.frontier.specs.Stages.{start}
 use Rattle.frontier.proofs.Extending.{below_parts, below_make}
-use Rattle.stages.specs.Table.{Inside, at, upto, Beaten, lesser, noted, behind, LeastPlace, Leasts}
+use Rattle.stages.specs.Table.{Inside, at, Beaten, lesser, noted, behind, LeastPlace, Leasts}
 use Rattle.stages.proofs.Order.{Comes, by_power, by_used, by_delay, comes, Near}
 use Rattle.stages.proofs.Sift.{last_or}
-
--- one place more of a list of places is noted
-module _ {V : Type 0} (m : Measure V) (t : List (State V)) (end used : ℕ) (delay : V) (start : List (Option ℕ)) where
-  -- the place u is noted, and those after it are as they were
-  pub note_more : (now : List (Option ℕ)) (u : ℕ) (o d : Option ℕ) → length now ≡ 301 → u < 301 → used ≤ u →
-      ((k : ℕ) → k < 301 → k < u → get_or now k None ≡ noted m t end (get_or start k None) k used delay) →
-      ((k : ℕ) → k < 301 → u ≤ k → get_or now k None ≡ get_or start k None) →
-      o ≡ lesser m t end (get_or now u d) delay →
-      ((k : ℕ) → k < 301 → k < u + 1 → get_or (set now u o) k None ≡ noted m t end (get_or start k None) k used delay) × ((k : ℕ) → k < 301 → u + 1 ≤ k → get_or (set now u o) k None ≡ get_or start k None)
-  note_more now u o d long lt le before after is = (λ k l h. one k l (last_or k u h), λ k l h. let ne : k ≢ u = omega arith in get_or-set_other now u k o None ne ∙ after k l (omega arith))
-    where
-      one : (k : ℕ) → k < 301 → (k < u) ⊎ (k ≡ u) → get_or (set now u o) k None ≡ noted m t end (get_or start k None) k used delay
-      one k l (inl h) = let ne : k ≢ u = omega arith in get_or-set_other now u k o None ne ∙ before k l h
-      one k l (inr e) =
-          let here : get_or (set now u o) k None ≡ o = ap (λ (z : ℕ). get_or (set now u o) z None) e ∙ get_or-set_same now u o None (omega arith) in
-          let was : get_or now u d ≡ get_or start k None = get_or_default now u d None (omega arith) ∙ after u lt (omega arith) ∙ ap (λ (z : ℕ). get_or start z None) (sym e) in
-          let no : ltb k used ≡ false = le-ltb k used (omega arith) in
-          here ∙ is ∙ ap (λ (z : Option ℕ). lesser m t end z delay) was ∙ sym (ap (λ (z : Bool). cond z (get_or start k None) (lesser m t end (get_or start k None) delay)) no)
-
-  -- below the used width nothing is noted
-  pub note_none : (k : ℕ) → k < used → get_or start k None ≡ noted m t end (get_or start k None) k used delay
-  note_none k h = sym (ap (λ (z : Bool). cond z (get_or start k None) (lesser m t end (get_or start k None) delay)) (lt-ltb k used h))
-
--- what is read stands inside the table
-pub inside_read : (n : ℕ) (start now : List (Option ℕ)) (u : ℕ) (d : Option ℕ) → length now ≡ 301 → u < 301 → ((k : ℕ) → k < 301 → Inside (get_or start k None) n) → get_or now u None ≡ get_or start u None → Inside (get_or now u d) n
-inside_read n start now u d long lt all e = subst (λ (z : Option ℕ). Inside z n) (sym (get_or_default now u d None (omega arith) ∙ e)) (all u lt)
 
 -- a least place stands inside the table
 pub inside_of : {V : Type 0} (m : Measure V) (t : List (State V)) (b end s u n : ℕ) → end ≤ n → (o : Option ℕ) → LeastPlace m t b end s u o → Inside o n

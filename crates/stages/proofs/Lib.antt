@@ -1,6 +1,8 @@
 pub mod Order
 pub mod Sift
 pub mod Places
+pub mod Skips
+pub mod Made
 pub mod Heads
 pub mod Leasts
 pub mod Turns

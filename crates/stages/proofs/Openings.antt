@@ -45,22 +45,7 @@ module _ {V : Type 0} (m : Measure V) (grid : Grid) (channel : ℕ) where
     rising = λ k k' h l. absurd (omega arith);
   }
 
-  module _ (s : ℕ) (t : List (State V)) (end : ℕ) (was : Opening m grid channel s t end) where
-    -- a space that the grid has not, or that the channel has no room for
-    pub opening_pass : (is_step_of grid.spaces s ≡ true → s ≤ channel → ⊥) → Opening m grid channel (s + 1) t end
-    opening_pass not = record {
-      high = was.high;
-      begins = was.begins;
-      earlier = λ k h. let l = was.earlier k h in omega arith;
-      whole = λ r h on room. go r on room (last_or r s h);
-      rising = was.rising;
-    }
-      where
-        go : (r : ℕ) → is_step_of grid.spaces r ≡ true → r ≤ channel → (r < s) ⊎ (r ≡ s) → (k : ℕ) × (k < end) × ((slot m t k).last ≡ r)
-        go r on room (inl h) = was.whole r h on room
-        go r on room (inr e) =
-            absurd (not (subst (λ (z : ℕ). is_step_of grid.spaces z ≡ true) e on) (subst (λ (z : ℕ). z ≤ channel) e room))
-
+  module _ {s : ℕ} {t : List (State V)} {end : ℕ} (was : Opening m grid channel s t end) where
     module _ (on : is_step_of grid.spaces s ≡ true) (room : s ≤ channel) (t₁ : List (State V)) (same : (k : ℕ) → k < end → slot m t₁ k ≡ slot m t k)
         (new : slot m t₁ end ≡ stated (start m s) 0 0) (long : end + 1 ≤ length t₁) where
       -- the last space of the new state
@@ -109,12 +94,10 @@ module _ {V : Type 0} (m : Measure V) (grid : Grid) (channel : ℕ) where
               omega arith
 
     -- the state of the space s is written
-    pub opening_put : is_step_of grid.spaces s ≡ true → s ≤ channel → end < length t → (t₁ : List (State V)) → t₁ ≡ set t end (stated (start m s) 0 0) →
-        Opening m grid channel (s + 1) t₁ (end + 1)
-    opening_put on room lt t₁ e =
-        let v = stated (start m s) 0 0 in
-        subst (λ (z : List (State V)). Opening m grid channel (s + 1) z (end + 1)) (sym e)
-        (opening_more on room (set t end v) (λ k h. let ne : k ≢ end = omega arith in get_or-set_other t end k v (blank m) ne) (get_or-set_same t end v (blank m) lt) (omega (arith, length-set t end v)))
+    pub opening_put : is_step_of grid.spaces s ≡ true → s ≤ channel → end < length t → {x : State V} → x ≡ stated (start m s) 0 0 → Opening m grid channel (s + 1) (set t end x) (end + 1)
+    opening_put on room lt {x} e =
+        opening_more on room (set t end x) (λ k h. let ne : k ≢ end = omega arith in get_or-set_other t end k x (blank m) ne)
+        (get_or-set_same t end x (blank m) lt ∙ e) (omega (arith, length-set t end x))
 
   -- different places hold different states
   opening_fresh : (s : ℕ) (t : List (State V)) (end : ℕ) → Opening m grid channel s t end → Fresh (rows t 0 end)
@@ -131,13 +114,13 @@ module _ {V : Type 0} (m : Measure V) (grid : Grid) (channel : ℕ) where
       omega (arith, rows_length m t 0 end (omega arith) was.high)
 
   -- a state is to be written and there is no room
-  pub opening_full : (s : ℕ) (t : List (State V)) (end : ℕ) → Opening m grid channel s t end → is_step_of grid.spaces s ≡ true → s ≤ channel → end ≡ length t →
+  pub opening_full : {s : ℕ} {t : List (State V)} {end : ℕ} → Opening m grid channel s t end → is_step_of grid.spaces s ≡ true → s ≤ channel → end ≡ length t →
       length t < length (firsts m grid channel)
-  opening_full s t end was on room full =
+  opening_full {s} {t} {end} was on room full =
       let v = stated (start m s) 0 0 in
       let t₁ = t ++ (v ∷ []) in
       let long : length t₁ ≡ length t + 1 = length-append t (v ∷ []) in
-      let more = opening_more s t end was on room t₁ (λ k h. get_or_append_left t (v ∷ []) (blank m) k (omega arith)) (get_or_at t v [] (blank m) end (sym full)) (omega arith) in
+      let more = opening_more was on room t₁ (λ k h. get_or_append_left t (v ∷ []) (blank m) k (omega arith)) (get_or_at t v [] (blank m) end (sym full)) (omega arith) in
       omega (arith, opening_count (s + 1) t₁ (end + 1) more)
 
 -- no step stands twice among all steps

@@ -6,12 +6,13 @@ use Rattle.drawing.specs.Plans.{within_limits}
 use Rattle.measures.specs.Laws.{Laws}
 use Rattle.pricing.specs.Measures.{Measure}
 use Rattle.pricing.specs.WirePrices.{wire_delay, wire_power}
+use Rattle.frontier.specs.Orders.{upto}
 use Rattle.frontier.specs.States.{Kept, state_below}
 use Rattle.frontier.specs.Stages.{extended}
 use Rattle.frontier.proofs.Members.{and_left, and_right, and_both, or_cases, or_left, or_right}
 use Rattle.frontier.proofs.Reach.{delay_small}
 use Rattle.frontier.proofs.Extending.{Below, below_parts, below_make}
-use Rattle.stages.specs.Table.{laid_as, Step, upto, Fit}
+use Rattle.stages.specs.Table.{laid_as, Step, Fit}
 
 module _ {V : Type 0} (m : Measure V) where
   -- how one state comes no later than another

@@ -9,10 +9,11 @@ use Rattle.pricing.specs.Allocations.{Book}
 use Rattle.pricing.specs.Measures.{Measure}
 use Rattle.frontier.specs.declared.records.State.{State}
 use Rattle.frontier.specs.Lists.{unbeaten}
+use Rattle.frontier.specs.Orders.{upto}
 use Rattle.frontier.specs.States.{Kept, kept_of, first, state_below}
 use Rattle.frontier.specs.Stages.{extended}
 use Rattle.frontier.proofs.Extending.{below_parts}
-use Rattle.stages.specs.Table.{stated, slot, at, upto, Fit, Standing, Head, Least, Offered, Made, Sifted, Before, Ahead}
+use Rattle.stages.specs.Table.{stated, slot, at, Fit, Standing, Head, Least, Offered, Made, Sifted, Before, Ahead}
 use Rattle.stages.proofs.Order.{Near, upto_through, below_first, below_same, below_through, extended_near, extended_upto}
 
 -- a number below n + 1 is below n, or n

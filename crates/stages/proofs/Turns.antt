@@ -1,6 +1,6 @@
 -- One offer after another. Assumes nothing.
-use Rattle.std.proofs.Common.{◌≡◌, ℕ, zero, suc, ◌+◌, ◌-◌, ◌*◌, ◌/◌, ◌%◌, ◌<◌, ◌≤◌, Bool, true, false, leb, ◌≢◌, ◌⊎◌, List, [], ◌∷◌, ◌++◌, length, get_or, take, set, Some, None, Option, sym, refl, ap, ◌∙◌, subst, inl, inr, le_of_suc-le-suc, not-suc-le-zero, arith, length-append, length-set, length-take, get_or-set_other, get_or-set_same}
-use Rattle.std.proofs.lemmas.List.{get_or_append_left, get_or_at}
+use Rattle.std.proofs.Common.{◌≡◌, ℕ, ◌+◌, ◌-◌, ◌*◌, ◌/◌, ◌%◌, ◌<◌, ◌≤◌, Bool, true, false, leb, ◌≢◌, ◌⊎◌, List, [], ◌∷◌, ◌++◌, length, get_or, take, set, Some, None, Option, sym, refl, ap, ◌∙◌, subst, inl, inr, arith, length-append, length-set, length-take, get_or-set_other, get_or-set_same}
+use Rattle.std.proofs.lemmas.List.{take-set-le, get_or_append_left, get_or_at}
 use Rattle.std.proofs.lemmas.Bool.{leb-true, le-leb, cases_eq}
 use Rattle.drawing.specs.declared.words.Grid.{Grid}
 use Rattle.drawing.specs.declared.words.Wire.{Wire}
@@ -8,24 +8,18 @@ use Rattle.measures.specs.Laws.{Laws}
 use Rattle.pricing.specs.Allocations.{Book, is_step_of}
 use Rattle.pricing.specs.Measures.{Measure}
 use Rattle.frontier.specs.declared.records.State.{State}
+use Rattle.frontier.specs.Orders.{upto}
 use Rattle.frontier.specs.States.{Kept, kept_of}
 use Rattle.frontier.proofs.Members.{and_right, and_both}
-use Rattle.stages.specs.Table.{Step, stated, Skipped, Moved, blank, slot, at, upto, Head, head_offer, Least, Ready, Beaten, noted, behind, Leasts, Task, Offered, Sifted, Ahead, Outnumber, Turn}
+use Rattle.stages.specs.Table.{Step, stated, Skipped, Inside, blank, slot, at, Head, head_offer, Least, Ready, Beaten, noted, behind, Leasts, Task, Offered, Sifted, Ahead, Outnumber, Turn}
 use Rattle.stages.proofs.Order.{Near}
 use Rattle.stages.proofs.Sift.{offer_near, made_near, sift_drop, sift_keep, ahead_or, least_of_all, ahead_grows, ahead_keeps}
 use Rattle.stages.proofs.Heads.{read_front}
 use Rattle.stages.proofs.Places.{sifted_count}
-use Rattle.stages.proofs.Leasts.{behind_beaten, leasts_more}
+use Rattle.stages.proofs.Leasts.{inside_of, behind_beaten, leasts_more}
 
--- a write past the front leaves the front
-pub take_set_past : {A : Type 0} (xs : List A) (b i : ℕ) (v : A) → b ≤ i → take b (set xs i v) ≡ take b xs
-take_set_past [] b i v h = refl
-take_set_past (x ∷ xs) zero i v h = refl
-take_set_past (x ∷ xs) (suc b) zero v h = absurd (not-suc-le-zero h)
-take_set_past (x ∷ xs) (suc b) (suc i) v h = ap (λ l. x ∷ l) (take_set_past xs b i v (le_of_suc-le-suc h))
-
-module _ {V : Type 0} (m : Measure V) {reach : ℕ → V → Type 0} (laws : Laws m.empty m.made m.joined m.below reach) (book : Book) (grid : Grid) (channel : ℕ) (q : Wire) (t : List (State V)) (a b : ℕ)
-    (task : Task m reach channel q t a b) (s : ℕ) (heads : List ℕ) (end : ℕ) (turn : Turn m book grid channel q (take b t) a b s heads t end) where
+module _ {V : Type 0} {m : Measure V} {reach : ℕ → V → Type 0} (laws : Laws m.empty m.made m.joined m.below reach) {book : Book} {grid : Grid} {channel : ℕ} {q : Wire} {t : List (State V)} {a b : ℕ}
+    (task : Task m reach channel q t a b) {s : ℕ} {heads : List ℕ} {end : ℕ} (turn : Turn m book grid channel q (take b t) a b s heads t end) where
   -- what it takes to read the heads
   pub ready : Step s → Ready m reach q t b heads s
   ready step = record {
@@ -38,7 +32,11 @@ module _ {V : Type 0} (m : Measure V) {reach : ℕ → V → Type 0} (laws : Law
         (record { last = f.last; used = omega (arith, f.used, task.narrow); power = f.power; near = f.near }, hd.last h);
   }
 
-  module _ (long : length heads ≡ 36) (step : Step s) (among : is_step_of grid.spaces s ≡ true) (k : ℕ) (least : Least m q (take b t) b heads s 36 (Some k)) (h' : ℕ) (sk : Skipped t (get_or heads k 0 + 1) b (k / 6 + 1) h') where
+  -- the places of the least delays stand inside the table
+  pub least_inside : (least : List (Option ℕ)) → Leasts m t b end s least → (u : ℕ) → u < 301 → Inside (get_or least u None) (length t)
+  least_inside least L u lt = inside_of m t b end s u (length t) turn.high (get_or least u None) (L u lt)
+
+  module _ (long : length heads ≡ 36) (step : Step s) (among : is_step_of grid.spaces s ≡ true) (k : ℕ) (least : Least m q (take b t) b heads s 36 (Some k)) {h' : ℕ} (sk : Skipped t (get_or heads k 0 + 1) b (k / 6 + 1) h') where
     -- what the head offers
     abbrev x : Kept V
     x = head_offer m q (take b t) heads s k
@@ -147,7 +145,7 @@ module _ {V : Type 0} (m : Measure V) {reach : ℕ → V → Type 0} (laws : Law
       lawful = lawful';
       low = omega (arith, turn.low);
       high = omega (arith, length-set t end v);
-      front = take_set_past t b end v turn.low;
+      front = take-set-le b t end v turn.low;
     }
 
     -- the offer is to be kept and there is no room
@@ -160,12 +158,8 @@ module _ {V : Type 0} (m : Measure V) {reach : ℕ → V → Type 0} (laws : Law
         let c = sifted_count m laws book grid channel q task.fits (take b t) a b task.standing task.low (omega arith) (D (set heads k h')) s t'' (end + 1) S (omega (arith, turn.low)) (omega arith) in
         omega (arith, c, turn.low)
 
-    -- the head has moved on
-    pub moved_on : Moved heads (set heads k h') k b
-    moved_on = record { to = h'; is = refl; on = omega (arith, sk.low); high = sk.high }
-
     -- the same of the state y that the code has made
-    module _ (y : State V) (is : y ≡ stated (head_offer m q (take b t) heads s k) (k % 6 + 1) (get_or heads k 0)) where
+    module _ {y : State V} (is : y ≡ stated (head_offer m q (take b t) heads s k) (k % 6 + 1) (get_or heads k 0)) where
       -- it is too wide
       pub drop_wide : channel < y.used → Turn m book grid channel q (take b t) a b s (set heads k h') t end
       drop_wide h = turn_drop (λ fits. let e : y.used ≡ x.used = ap (λ (z : State V). z.used) is in absurd (wide e h fits))
@@ -187,11 +181,6 @@ module _ {V : Type 0} (m : Measure V) {reach : ℕ → V → Type 0} (laws : Law
       -- there is no room for it
       pub full_it : y.used ≤ channel → Beaten m t b end (kept_of y) false → end ≡ length t → Outnumber m book grid channel q (take b t) a b (length t - b)
       full_it fits un full = turn_full (subst (λ (z : State V). z.used ≤ channel) is fits) (subst (λ (z : State V). Beaten m t b end (kept_of z) false) is un) full
-
-      -- it is kept in the table that the code has written
-      pub keep_put : (t₁ : List (State V)) → t₁ ≡ set t end y → y.used ≤ channel → Beaten m t b end (kept_of y) false → end < length t →
-          Turn m book grid channel q (take b t) a b s (set heads k h') t₁ (end + 1)
-      keep_put t₁ e fits un room = subst (λ (z : List (State V)). Turn m book grid channel q (take b t) a b s (set heads k h') z (end + 1)) (sym e) (keep_it fits un room)
 
       -- what is held is in reach
       near : (j : ℕ) → b ≤ j → j < end → Near reach (at m t j)
@@ -217,8 +206,8 @@ module _ {V : Type 0} (m : Measure V) {reach : ℕ → V → Type 0} (laws : Law
 
       -- its delay is noted
       pub leasts_kept : y.used ≤ channel → (least least' : List (Option ℕ)) → Leasts m t b end s least → ((u : ℕ) → u < 301 → get_or least' u None ≡ noted m t end (get_or least u None) u y.used y.delay) →
-          (t₁ : List (State V)) → t₁ ≡ set t end y → end < length t → Leasts m t₁ b (end + 1) s least'
-      leasts_kept fits least least' L note t₁ e room =
-          leasts_more m laws t b end s near (kept_of y) (y_near fits) y_last least least' turn.low L note t₁
-          (λ j h. let ne : j ≢ end = omega arith in ap (λ (z : List (State V)). at m z j) e ∙ ap kept_of (get_or-set_other t end j y (blank m) ne))
-          (ap (λ (z : List (State V)). at m z end) e ∙ ap kept_of (get_or-set_same t end y (blank m) room))
+          end < length t → Leasts m (set t end y) b (end + 1) s least'
+      leasts_kept fits least least' L note room =
+          leasts_more m laws t b end s near (kept_of y) (y_near fits) y_last least least' turn.low L note (set t end y)
+          (λ j h. let ne : j ≢ end = omega arith in ap kept_of (get_or-set_other t end j y (blank m) ne))
+          (ap kept_of (get_or-set_same t end y (blank m) room))

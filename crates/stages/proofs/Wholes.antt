@@ -1,5 +1,5 @@
 -- Stage after stage. Assumes nothing.
-use Rattle.std.proofs.Common.{◌≡◌, ℕ, zero, suc, ◌+◌, ◌-◌, ◌<◌, ◌≤◌, true, ◌⊎◌, List, length, get_or, take, Some, sym, refl, ap, ◌∙◌, subst, inl, inr, arith}
+use Rattle.std.proofs.Common.{◌≡◌, ℕ, zero, suc, ◌+◌, ◌-◌, ◌<◌, ◌≤◌, true, ◌⊎◌, List, length, get_or, take, Some, None, Option, sym, refl, ap, ◌∙◌, subst, inl, inr, arith}
 use Rattle.std.proofs.lemmas.List.{get_or_default}
 use Rattle.drawing.specs.declared.words.Grid.{Grid}
 use Rattle.drawing.specs.declared.words.Wire.{Wire}
@@ -13,7 +13,7 @@ use Rattle.frontier.specs.Stages.{extended, may_follow, starts}
 use Rattle.frontier.proofs.Reach.{limited_wires}
 use Rattle.frontier.proofs.Counts.{kept_counted_holds}
 use Rattle.stages.specs.Table.{rows, blank, slot, at, Made}
-use Rattle.stages.specs.Stage.{at_stage, Stage, AheadOf, Onward}
+use Rattle.stages.specs.Stage.{Course, at_stage, Stage, AheadOf, Onward}
 use Rattle.stages.specs.Openings.{Begins, Opening}
 use Rattle.stages.specs.Chain.{cut, Chain, Whole}
 use Rattle.stages.proofs.Sift.{last_or}
@@ -92,10 +92,31 @@ module _ {V : Type 0} (m : Measure V) {reach : ℕ → V → Type 0} (laws : Law
         let c = firsts_count m laws book d sound in
         omega arith
 
+    -- the next wire can be laid
+    ahead : (x : Wire) (j : ℕ) (t : List (State V)) (a b : ℕ) → j < length d.wires → Stage m reach book (at_stage d j) t a b →
+        AheadOf m reach book (at_stage d j) d.grid d.channel (get_or d.wires j x) t a b
+    ahead x j t a b lt st = record {
+      same_grid = refl;
+      same_channel = refl;
+      sound = sound;
+      inside = lt;
+      wire = get_or_default d.wires j x (get_or d.wires j x) lt;
+      stage = st;
+    }
+
+    -- the same as a call asks for it
+    pub laid_next : (x : Wire) (j : ℕ) (t : List (State V)) (a b : ℕ) → j < length d.wires → Whole m book d reach j t a b →
+        (w : Course) × AheadOf m reach book w d.grid d.channel (get_or d.wires j x) t a b
+    laid_next x j t a b lt w = (at_stage d j, ahead x j t a b lt w.stage)
+
+    -- what such a call makes
+    abbrev pub After : Wire → List (State V) → List (State V) → ℕ → ℕ → Option ℕ → Type 0
+    After q t t' a b r = (w : Course) → AheadOf m reach book w d.grid d.channel q t a b → Onward m reach book w d.grid d.channel q t t' a b r
+
     -- one stage more stands
-    pub go_on : (j : ℕ) (q : Wire) (t t' : List (State V)) (a b e : ℕ) → q ≡ get_or d.wires j q → j < length d.wires → Whole m book d reach j t a b →
+    grown : (j : ℕ) (q : Wire) (t t' : List (State V)) (a b e : ℕ) → q ≡ get_or d.wires j q → j < length d.wires → Whole m book d reach j t a b →
         Onward m reach book (at_stage d j) d.grid d.channel q t t' a b (Some e) → Whole m book d reach (j + 1) t' b e
-    go_on j q t t' a b e eq lt w (front, st, made) =
+    grown j q t t' a b e eq lt w (front, st, made) =
         let es : suc j ≡ j + 1 = omega arith in
         let ends : e ≡ kept_up_to m book d j + length (kept m book d (suc j)) = omega (arith, counted (suc j) t' b e st, st.low, w.end_at) in
         subst (λ (z : ℕ). Whole m book d reach z t' b e) es (record { stage = st; begin_at = w.end_at; end_at = ends; chain = chain ends })
@@ -129,25 +150,16 @@ module _ {V : Type 0} (m : Measure V) {reach : ℕ → V → Type 0} (laws : Law
                 Made m book d.grid d.channel p t' (cut m book d z) (cut m book d (suc z)) (slot m t' i) in
                 subst P (sym h) (λ ep low high. newest i p ep (let eb = w.end_at in omega arith) (omega arith)) ep low high
 
+    -- the same from what the call makes
+    pub go_on : (x : Wire) (j : ℕ) (t t' : List (State V)) (a b e : ℕ) → j < length d.wires → Whole m book d reach j t a b → After (get_or d.wires j x) t t' a b (Some e) → Whole m book d reach (j + 1) t' b e
+    go_on x j t t' a b e lt w after =
+        let go = ahead x j t a b lt w.stage in
+        grown j (get_or d.wires j x) t t' a b e go.wire lt w (after (at_stage d j) go)
+
     -- the next stage is out of room
-    pub too_many : (j room b : ℕ) → j < length d.wires → b ≡ cut m book d (suc j) → room - b < length (kept m book d (suc j)) → room < kept_states m book d
-    too_many j room b lt eb h =
+    pub too_many : (x : Wire) (j : ℕ) (t t' : List (State V)) (a b : ℕ) → j < length d.wires → Whole m book d reach j t a b → After (get_or d.wires j x) t t' a b None → length t' < kept_states m book d
+    too_many x j t t' a b lt w after =
+        let h = after (at_stage d j) (ahead x j t a b lt w.stage) in
         let up = up_to_more (length d.wires) (suc j) lt in
-        let h' : room < kept_up_to m book d j + length (kept m book d (suc j)) = omega arith in
+        let fits : length t' < kept_up_to m book d j + length (kept m book d (suc j)) = omega (arith, w.end_at) in
         omega (arith, up)
-
-    -- all stages stand
-    pub finish : (j : ℕ) (t : List (State V)) (a b : ℕ) → j ≡ length d.wires → Whole m book d reach j t a b → Whole m book d reach (length d.wires) t a b
-    finish j t a b e w = subst (λ (z : ℕ). Whole m book d reach z t a b) e w
-
-    -- the next wire can be laid
-    pub ahead : (dflt : Wire) (j : ℕ) (t : List (State V)) (a b : ℕ) → j < length d.wires → Stage m reach book (at_stage d j) t a b →
-        AheadOf m reach book (at_stage d j) d.grid d.channel (get_or d.wires j dflt) t a b
-    ahead dflt j t a b lt st = record {
-      same_grid = refl;
-      same_channel = refl;
-      sound = sound;
-      inside = lt;
-      wire = get_or_default d.wires j dflt (get_or d.wires j dflt) lt;
-      stage = st;
-    }

@@ -6,8 +6,9 @@ use Rattle.drawing.specs.Plans.{Plan, Sound}
 use Rattle.pricing.specs.Allocations.{Book}
 use Rattle.pricing.specs.Measures.{Measure}
 use Rattle.frontier.specs.declared.records.State.{State}
+use Rattle.frontier.specs.Orders.{upto}
 use Rattle.frontier.specs.States.{Kept, first, kept, KeptRow}
-use Rattle.stages.specs.Table.{Step, rows, slot, at, upto, Made}
+use Rattle.stages.specs.Table.{Step, rows, slot, at, Made}
 
 -- a plan, and how many of its wires are laid
 pub record Course : Type 0 where

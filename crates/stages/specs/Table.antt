@@ -1,6 +1,6 @@
 -- The state table of a solve, the order in which a stage's states stand, what is offered to the next stage, and what of
 -- it a stage that is being built holds. Assumes nothing.
-use Rattle.std.specs.Prelude.{◌≡◌, ℕ, ◌+◌, ◌-◌, ◌*◌, ◌/◌, ◌%◌, ◌<◌, ◌≤◌, Bool, true, false, cond, ◌&&◌, ◌||◌, ◌⊎◌, ◌↔◌, List, map, length, get_or, take, Some, None, Option, ◌==◌, ◌≢◌, nat_lt, slice_index, slice_index_or, slice_range, slice_set}
+use Rattle.std.specs.Prelude.{◌≡◌, ℕ, ◌+◌, ◌-◌, ◌*◌, ◌/◌, ◌%◌, ◌<◌, ◌≤◌, Bool, true, false, cond, ◌⊎◌, ◌↔◌, List, map, length, get_or, take, Some, None, Option, ◌≢◌, nat_lt, slice_index, slice_index_or, slice_range, slice_set}
 use Rattle.drawing.specs.declared.words.Grid.{Grid}
 use Rattle.drawing.specs.declared.words.Wire.{Wire}
 use Rattle.drawing.specs.Plans.{within_limits}
@@ -8,6 +8,7 @@ use Rattle.pricing.specs.Allocations.{Laid, Book, is_step_of}
 use Rattle.pricing.specs.Measures.{Measure}
 use Rattle.frontier.specs.declared.records.State.{State}
 use Rattle.frontier.specs.Lists.{◌∈◌, Fresh, each, undominated}
+use Rattle.frontier.specs.Orders.{blank_state, upto}
 use Rattle.frontier.specs.States.{Kept, kept_of, state_below}
 use Rattle.frontier.specs.Stages.{extended, may_follow, extensions}
 
@@ -61,10 +62,14 @@ pub record Moved (heads heads' : List ℕ) (k b : ℕ) : Type 0 where
   pub on : get_or heads k 0 < to
   pub high : to ≤ b
 
+-- the stream k is not at its end
+abbrev pub Live : List ℕ → ℕ → ℕ → Type 0
+Live heads b k = (k < 36) × (slice_index heads k < b)
+
 module _ {V : Type 0} (m : Measure V) where
   -- what stands past the end of a table
   abbrev pub blank : State V
-  blank = record { last = 0; used = 0; power = 0; delay = m.empty; width = 0; from = 0 }
+  blank = blank_state m.empty
 
   -- the state at a place
   abbrev pub slot : List (State V) → ℕ → State V
@@ -73,10 +78,6 @@ module _ {V : Type 0} (m : Measure V) where
   -- what counts of the state at a place
   abbrev pub at : List (State V) → ℕ → Kept V
   at t i = kept_of (slice_index_or t i blank)
-
-  -- the order of a stage: by power, then used width, then delay
-  abbrev pub upto : Kept V → Kept V → Bool
-  upto x y = nat_lt x.power y.power || (x.power == y.power && (nat_lt x.used y.used || (x.used == y.used && m.below x.delay y.delay)))
 
   -- what the states of a stage keep that has a wire to come
   pub record Fit (reach : ℕ → V → Type 0) (channel : ℕ) (s : Kept V) : Type 0 where
@@ -88,7 +89,7 @@ module _ {V : Type 0} (m : Measure V) where
   -- the states of a stage at the places from a on and before b, those of one last space in order
   pub record Standing (reach : ℕ → V → Type 0) (channel : ℕ) (t : List (State V)) (a b : ℕ) : Type 0 where
     pub fit : (i : ℕ) → a ≤ i → i < b → Fit reach channel (at t i)
-    pub ordered : (i k : ℕ) → a ≤ i → i < k → k < b → (at t i).last ≡ (at t k).last → upto (at t i) (at t k) ≡ true
+    pub ordered : (i k : ℕ) → a ≤ i → i < k → k < b → (at t i).last ≡ (at t k).last → upto m (at t i) (at t k) ≡ true
 
   -- the head h of stream k
   pub record Head (t : List (State V)) (a b k h : ℕ) : Type 0 where
@@ -103,7 +104,7 @@ module _ {V : Type 0} (m : Measure V) where
   -- of the first n streams, the one whose head comes first
   abbrev pub Least : Wire → List (State V) → ℕ → List ℕ → ℕ → ℕ → Option ℕ → Type 0
   Least q t b heads s n None = (k : ℕ) → k < n → b ≤ slice_index heads k
-  Least q t b heads s n (Some r) = (r < n) × (slice_index heads r < b) × ((k : ℕ) → k < n → slice_index heads k < b → upto (head_offer q t heads s r) (head_offer q t heads s k) ≡ true)
+  Least q t b heads s n (Some r) = (r < n) × (slice_index heads r < b) × ((k : ℕ) → k < n → slice_index heads k < b → upto m (head_offer q t heads s r) (head_offer q t heads s k) ≡ true)
 
   -- what it takes to read the heads of the streams
   pub record Ready (reach : ℕ → V → Type 0) (q : Wire) (t : List (State V)) (b : ℕ) (heads : List ℕ) (s : ℕ) : Type 0 where
@@ -182,8 +183,8 @@ module _ {V : Type 0} (m : Measure V) where
       pub covered : (i w r : ℕ) → Offered i w r → Done i w r → (k : ℕ) × (b ≤ k) × (k < end) × (state_below m (at t' k) (offer i w r) ≡ true)
       pub fresh : (k k' : ℕ) → b ≤ k → k < k' → k' < end → at t' k ≢ at t' k'
       pub lasts : (k : ℕ) → b ≤ k → k < end → (at t' k).last ≤ s
-      pub later : (k : ℕ) → b ≤ k → k < end → (at t' k).last ≡ s → (i w : ℕ) → Offered i w s → (Done i w s → ⊥) → upto (at t' k) (offer i w s) ≡ true
-      pub ordered : (k k' : ℕ) → b ≤ k → k < k' → k' < end → ((at t' k).last ≤ (at t' k').last) × ((at t' k).last ≡ (at t' k').last → upto (at t' k) (at t' k') ≡ true)
+      pub later : (k : ℕ) → b ≤ k → k < end → (at t' k).last ≡ s → (i w : ℕ) → Offered i w s → (Done i w s → ⊥) → upto m (at t' k) (offer i w s) ≡ true
+      pub ordered : (k k' : ℕ) → b ≤ k → k < k' → k' < end → ((at t' k).last ≤ (at t' k').last) × ((at t' k).last ≡ (at t' k').last → upto m (at t' k) (at t' k') ≡ true)
 
     -- the spaces before s are done
     abbrev pub Before : ℕ → ℕ → ℕ → ℕ → Type 0
@@ -208,7 +209,7 @@ module _ {V : Type 0} (m : Measure V) where
       pub made : (k : ℕ) → b ≤ k → k < end → Made (slot t' k)
       pub exactly : (s : Kept V) → (s ∈ rows t' b end) ↔ (s ∈ undominated (state_below m) all_offers)
       pub fresh : Fresh (rows t' b end)
-      pub ordered : (k k' : ℕ) → b ≤ k → k < k' → k' < end → (at t' k).last ≡ (at t' k').last → upto (at t' k) (at t' k') ≡ true
+      pub ordered : (k k' : ℕ) → b ≤ k → k < k' → k' < end → (at t' k).last ≡ (at t' k').last → upto m (at t' k) (at t' k') ≡ true
 
     -- the states that the new stage keeps outnumber the room
     abbrev pub Outnumber : ℕ → Type 0
@@ -240,8 +241,3 @@ module _ {V : Type 0} (m : Measure V) where
     abbrev pub Filled : ℕ → List (State V) → Option ℕ → Type 0
     Filled s t' None = Outnumber (length t' - b)
     Filled s t' (Some end) = Between s t' end
-
-    -- the new stage stands, or is out of room
-    abbrev pub Staged : List (State V) → Option ℕ → Type 0
-    Staged t' None = Outnumber (length t' - b)
-    Staged t' (Some end) = (take b t' ≡ t) × Next t' end

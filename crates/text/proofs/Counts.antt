@@ -1,58 +1,72 @@
--- One step of a loop over the bytes of a line: its field at the front, and how many it has. Assumes nothing.
-use Rattle.std.proofs.Common.{◌≡◌, ℕ, ◌+◌, ◌<◌, ◌≤◌, ◌⊎◌, List, [], ◌∷◌, ◌++◌, length, get_or, take, drop, sym, ap, ◌∙◌, append_assoc, arith}
-use Rattle.std.proofs.lemmas.List.{at_drop_more, at_drop_all, take_more, append-nil, length-take-le}
+-- Where the field at the front of a line ends, and how many fields the line has. Assumes nothing.
+use Rattle.std.proofs.Common.{◌≡◌, ℕ, ◌+◌, ◌<◌, ◌≤◌, Bool, not, ◌||◌, ◌==◌, List, [], ◌∷◌, length, position, filter, take, Some, None, Option, refl, ap, ◌∙◌, ⊎_elim, one-add, arith}
+use Rattle.std.specs.List.{position_or_len}
+use Rattle.std.specs.Option.{unwrap_or}
+use Rattle.std.proofs.lemmas.List.Sums.{prefix_len-le-length}
+use Rattle.std.proofs.lemmas.Bool.{cases_eq, eq-eqb, ne_eqb}
 use Rattle.std.proofs.lemmas.Bool.Decides.{nat_tests}
 use Rattle.text.specs.Cuts.{cut_first, cut_rest, cut_at, field_of, closed_count, line_count}
 
--- ---- the field at the front
+-- the part before the first separator is all that stands before its place
+pub first_taken : (s : ℕ) (bs : List ℕ) → cut_first s bs ≡ take (position_or_len (λ b. b == s) bs) bs
+first_taken s [] = refl
+first_taken s (c ∷ cs) =
+    ⊎_elim
+    (λ (e : c ≡ s). rw (eq-eqb c s e))
+    (λ (n : c ≡ s → ⊥). rw (ne_eqb c s n, one-add) (ap (λ x. c ∷ x) (first_taken s cs)))
+    (cases_eq c s)
 
--- a byte inside the field is gone past
-pub field_step : (bs : List ℕ) (i : ℕ) → i < length bs → (get_or bs i 0 ≡ 44 → ⊥) → (get_or bs i 0 ≡ 10 → ⊥)
-    → field_of bs ≡ take i bs ++ field_of (drop i bs) → field_of bs ≡ take (i + 1) bs ++ field_of (drop (i + 1) bs)
-field_step bs i h n m e =
-    let f : field_of (drop i bs) ≡ get_or bs i 0 ∷ field_of (drop (i + 1) bs) = at_drop_more field_of bs i 0 h ∙ grind (arith, nat_tests) in
-    let t = take_more bs i 0 h in
-    let a = append_assoc (take i bs) (get_or bs i 0 ∷ []) (field_of (drop (i + 1) bs)) in
-    e ∙ (ap (λ x. take i bs ++ x) f ∙ (sym a ∙ ap (λ x. x ++ field_of (drop (i + 1) bs)) (sym t)))
+-- with no separator there is no other part
+pub rest_none : (s : ℕ) (bs : List ℕ) → length bs ≤ position_or_len (λ b. b == s) bs → cut_rest s bs ≡ []
+rest_none s [] h = refl
+rest_none s (c ∷ cs) h = let ih = rest_none s cs in grind (arith, nat_tests)
 
--- where the rest has no field, the bytes before it are the field
-field_ends : (bs : List ℕ) (i : ℕ) → field_of (drop i bs) ≡ [] → field_of bs ≡ take i bs ++ field_of (drop i bs) → take i bs ≡ field_of bs
-field_ends bs i f e = sym (e ∙ (ap (λ x. take i bs ++ x) f ∙ append-nil (take i bs)))
+-- with a separator there is another part
+pub rest_some : (s : ℕ) (bs : List ℕ) → position_or_len (λ b. b == s) bs < length bs → 0 < length (cut_rest s bs)
+rest_some s [] h = absurd (omega arith)
+rest_some s (c ∷ cs) h = let ih = rest_some s cs in grind (arith, nat_tests)
 
--- the field ends at a comma or byte 10
-pub field_stop : (bs : List ℕ) (i : ℕ) → i < length bs → (get_or bs i 0 ≡ 44) ⊎ (get_or bs i 0 ≡ 10) → field_of bs ≡ take i bs ++ field_of (drop i bs) → take i bs ≡ field_of bs
-field_stop bs i h out e = field_ends bs i (at_drop_more field_of bs i 0 h ∙ grind (arith, nat_tests)) e
+-- there is one part more than separators
+pub parts_counted : (s : ℕ) (bs : List ℕ) → length (cut_at s bs) ≡ length (filter (λ b. b == s) bs) + 1
+parts_counted s [] = refl
+parts_counted s (c ∷ cs) =
+    let ih = parts_counted s cs in
+    ⊎_elim
+    (λ (e : c ≡ s). rw (eq-eqb c s e) (omega arith))
+    (λ (n : c ≡ s → ⊥). rw (ne_eqb c s n) (omega arith))
+    (cases_eq c s)
 
--- the field ends with the bytes
-pub field_end : (bs : List ℕ) (i : ℕ) → length bs ≤ i → field_of bs ≡ take i bs ++ field_of (drop i bs) → take i bs ≡ field_of bs
-field_end bs i h e = field_ends bs i (at_drop_all field_of bs i h) e
+-- the field at the front ends at the first comma or byte 10
+pub field_ends : (bs : List ℕ) → length (field_of bs) ≡ position_or_len (λ b. b == 44 || b == 10) bs
+field_ends [] = refl
+field_ends (c ∷ cs) = let ih = field_ends cs in grind (arith, nat_tests)
 
--- a part from the front is as long as it was taken
-pub length_front : (bs f : List ℕ) (i : ℕ) → i ≤ length bs → take i bs ≡ f → i ≡ length f
-length_front bs f i h e = sym (length-take-le i bs h) ∙ ap length e
+-- the field at the front is as many of the bytes
+pub field_taken : (bs : List ℕ) → take (length (field_of bs)) bs ≡ field_of bs
+field_taken [] = refl
+field_taken (c ∷ cs) = let ih = field_taken cs in grind (arith, nat_tests)
 
--- ---- how many fields
+-- ---- by the first place that passes a test
 
--- the count of a line's fields, where n commas stand before these bytes
-abbrev pub count_after : ℕ → List ℕ → ℕ
-count_after n bs = closed_count (cut_rest 10 bs) (n + length (cut_at 44 (cut_first 10 bs)))
+-- the place, or else the length
+pub place_or_len : (p : ℕ → Bool) (bs : List ℕ) (r : Option ℕ) → r ≡ position p bs → unwrap_or r (length bs) ≡ position_or_len p bs
+place_or_len p bs r e = let le : position_or_len p bs ≤ length bs = prefix_len-le-length (λ b. not (p b)) bs in grind (arith, nat_tests)
 
--- before the first byte no comma is passed
-pub count_none : (bs : List ℕ) → line_count bs ≡ count_after 0 bs
-count_none bs = ap (closed_count (cut_rest 10 bs)) (omega arith)
+-- a line with no byte 10 lacks its end
+pub line_open : (bs : List ℕ) → position (λ b. b == 10) bs ≡ None → line_count bs ≡ 0
+line_open bs e =
+    let h : length bs ≤ position_or_len (λ b. b == 10) bs = grind (arith, nat_tests) in
+    ap (λ ms. closed_count ms (length (cut_at 44 (cut_first 10 bs)))) (rest_none 10 bs h)
 
--- a comma is passed
-pub count_comma : (n : ℕ) (bs : List ℕ) (i : ℕ) → i < length bs → get_or bs i 0 ≡ 44 → count_after n (drop i bs) ≡ count_after (n + 1) (drop (i + 1) bs)
-count_comma n bs i h e = at_drop_more (count_after n) bs i 0 h ∙ grind (arith, nat_tests)
+-- where another part follows, the count stands
+count_stands : (ms : List (List ℕ)) (n : ℕ) → 0 < length ms → closed_count ms n ≡ n
+count_stands [] n h = absurd (omega arith)
+count_stands (m ∷ ms) n h = refl
 
--- a byte inside a field is passed
-pub count_other : (n : ℕ) (bs : List ℕ) (i : ℕ) → i < length bs → (get_or bs i 0 ≡ 44 → ⊥) → (get_or bs i 0 ≡ 10 → ⊥) → count_after n (drop i bs) ≡ count_after n (drop (i + 1) bs)
-count_other n bs i h e f = at_drop_more (count_after n) bs i 0 h ∙ grind (arith, nat_tests)
-
--- at byte 10 there is one field more than commas
-pub count_stop : (n : ℕ) (bs : List ℕ) (i : ℕ) → i < length bs → get_or bs i 0 ≡ 10 → count_after n (drop i bs) ≡ n + 1
-count_stop n bs i h e = at_drop_more (count_after n) bs i 0 h ∙ grind (arith, nat_tests)
-
--- with no byte left the line lacks its end
-pub count_end : (n : ℕ) (bs : List ℕ) (i : ℕ) → length bs ≤ i → count_after n (drop i bs) ≡ 0
-count_end n bs i h = at_drop_all (count_after n) bs i h
+-- a line that byte 10 ends has one field more than commas
+pub line_closed : (bs : List ℕ) (i : ℕ) → position (λ b. b == 10) bs ≡ Some i → line_count bs ≡ length (filter (λ b. b == 44) (take i bs)) + 1
+line_closed bs i e =
+    let h : position_or_len (λ b. b == 10) bs < length bs = grind (arith, nat_tests) in
+    let k : position_or_len (λ b. b == 10) bs ≡ i = grind (arith, nat_tests) in
+    count_stands (cut_rest 10 bs) (length (cut_at 44 (cut_first 10 bs))) (rest_some 10 bs h)
+    ∙ (ap (λ x. length (cut_at 44 x)) (first_taken 10 bs ∙ ap (λ n. take n bs) k) ∙ parts_counted 44 (take i bs))

@@ -1,12 +1,7 @@
 -- Bytes field by field: what is left past the field at the front. Assumes nothing.
-use Rattle.std.proofs.Common.{◌≡◌, ℕ, ◌+◌, ◌<◌, ◌≤◌, List, [], ◌∷◌, length, drop, sym, refl, ap, ◌∙◌, arith}
-use Rattle.std.proofs.lemmas.List.{drop-drop}
+use Rattle.std.proofs.Common.{◌≡◌, ℕ, ◌<◌, ◌≤◌, List, [], ◌∷◌, length, refl, arith}
 use Rattle.std.proofs.lemmas.Bool.Decides.{nat_tests}
 use Rattle.text.specs.Cuts.{cut_first, cut_rest, cut_at, field_of, after, closed_count, line_count}
-
--- there is always a part
-pub parts_some : (s : ℕ) (bs : List ℕ) → 0 < length (cut_at s bs)
-parts_some s bs = omega arith
 
 -- past a field that a comma ends stand the other fields of its line, and the same lines
 pub field_more : (bs : List ℕ) → 1 < length (cut_at 44 (cut_first 10 bs))
@@ -34,11 +29,6 @@ field_within (c ∷ cs) = let ih = field_within cs in grind (arith, nat_tests)
 pub field_ended : (bs : List ℕ) → 0 < length (cut_rest 10 bs) → length (field_of bs) < length bs
 field_ended [] h = absurd (omega arith)
 field_ended (c ∷ cs) h = let ih = field_ended cs in grind (arith, nat_tests)
-
--- the same by places: past n bytes from `at` on and the byte that follows them
-pub after_drop : (bs : List ℕ) (at n : ℕ) → n ≡ length (field_of (drop at bs)) → drop (at + n + 1) bs ≡ after (drop at bs)
-after_drop bs at n e =
-    sym (ap (λ k. drop 1 (drop k (drop at bs))) (sym e) ∙ (ap (drop 1) (drop-drop n at bs) ∙ drop-drop 1 (at + n) bs))
 
 -- ---- how many fields
 

@@ -154,36 +154,39 @@ length_run s = length_digits_from 6 0 s
 
 -- ---- a run written step by step
 
--- the digits of a run from step k + 1 on
+-- the digits of a run from the digit d on
 unfoldable pub digits_left : ℕ → ℕ → List ℕ
-digits_left k s = digits_from (6 - k) k s
+digits_left d s = digits_from (55 - d) (d - 49) s
 
 -- before the first step all is left
-pub left_all : (s : ℕ) → digits_left 0 s ≡ run_text s
+pub left_all : (s : ℕ) → digits_left 49 s ≡ run_text s
 unfolding digits_left run_text
 left_all s = refl
 
 -- past the last step nothing is left
-pub left_none : (s : ℕ) → digits_left 6 s ≡ []
+pub left_none : (s : ℕ) → digits_left 55 s ≡ []
 unfolding digits_left
 left_none s = refl
 
--- the step k + 1 is in the set, so its digit comes next
-pub left_digit : (k s : ℕ) → k < 6 → s % 2 ≡ 1 → digits_left k s ≡ (49 + k) ∷ digits_left (k + 1) (s / 2)
+-- the step of the digit d is in the set, so d comes next
+pub left_digit : (d s : ℕ) → 49 ≤ d → d < 55 → s % 2 ≡ 1 → digits_left d s ≡ d ∷ digits_left (d + 1) (s / 2)
 unfolding digits_left
-left_digit k s h e =
-    let m : 6 - k ≡ suc (6 - (k + 1)) = omega arith in
-    ap (λ n. digits_from n k s) m ∙ rw (eq-eqb (s % 2) 1 e)
+left_digit d s lo hi e =
+    let m : 55 - d ≡ suc (55 - (d + 1)) = omega arith in
+    let k : (d - 49) + 1 ≡ d + 1 - 49 = omega arith in
+    let b : 49 + (d - 49) ≡ d = omega arith in
+    ap (λ n. digits_from n (d - 49) s) m ∙ rw (eq-eqb (s % 2) 1 e, b, k)
 
--- the step k + 1 is not in the set
-pub left_gap : (k s : ℕ) → k < 6 → (s % 2 ≡ 1 → ⊥) → digits_left k s ≡ digits_left (k + 1) (s / 2)
+-- the step of the digit d is not in the set
+pub left_gap : (d s : ℕ) → 49 ≤ d → d < 55 → (s % 2 ≡ 1 → ⊥) → digits_left d s ≡ digits_left (d + 1) (s / 2)
 unfolding digits_left
-left_gap k s h e =
-    let m : 6 - k ≡ suc (6 - (k + 1)) = omega arith in
-    ap (λ n. digits_from n k s) m ∙ rw (ne_eqb (s % 2) 1 e)
+left_gap d s lo hi e =
+    let m : 55 - d ≡ suc (55 - (d + 1)) = omega arith in
+    let k : (d - 49) + 1 ≡ d + 1 - 49 = omega arith in
+    ap (λ n. digits_from n (d - 49) s) m ∙ rw (ne_eqb (s % 2) 1 e, k)
 
 -- a digit goes over from what is left to what is written
-pub left_moved : (t u w : List ℕ) (k s : ℕ) → k < 6 → s % 2 ≡ 1 → u ≡ t ++ ((49 + k) ∷ []) → t ++ digits_left k s ≡ w → u ++ digits_left (k + 1) (s / 2) ≡ w
-left_moved t u w k s h e p q =
-    ap (λ x. x ++ digits_left (k + 1) (s / 2)) p
-    ∙ (append_assoc t ((49 + k) ∷ []) (digits_left (k + 1) (s / 2)) ∙ (ap (λ x. t ++ x) (sym (left_digit k s h e)) ∙ q))
+pub left_moved : (t u w : List ℕ) (d s : ℕ) → 49 ≤ d → d < 55 → s % 2 ≡ 1 → u ≡ t ++ (d ∷ []) → t ++ digits_left d s ≡ w → u ++ digits_left (d + 1) (s / 2) ≡ w
+left_moved t u w d s lo hi e p q =
+    ap (λ x. x ++ digits_left (d + 1) (s / 2)) p
+    ∙ (append_assoc t (d ∷ []) (digits_left (d + 1) (s / 2)) ∙ (ap (λ x. t ++ x) (sym (left_digit d s lo hi e)) ∙ q))

@@ -2,4 +2,3 @@ pub mod Cuts
 pub mod Numbers
 pub mod Runs
 pub mod Lines
-pub mod Scratch

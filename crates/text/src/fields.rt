@@ -1,32 +1,28 @@
-ghost use Rattle.std.specs.Prelude.{◌≡◌, ◌-◌, ◌^◌, ◌<◌, ◌≤◌, min, length, take};
+ghost use Rattle.std.specs.Prelude.{◌≡◌, ◌<◌, ◌≤◌, ◌↔◌, min, length, take, IsSome};
+ghost use Rattle.std.specs.Option.{unwrap_or};
 ghost use Rattle.std.specs.Str.{bytes_eq};
 ghost use Rattle.text.specs.Cuts.{cut_first, line_count};
-ghost use Rattle.text.specs.Numbers.{number_in};
+ghost use Rattle.text.specs.Numbers.{all_digits, number_in};
 ghost use Rattle.text.specs.Runs.{set_in, run_in};
+
+// Whether every byte is a decimal digit.
+pub fn all_digits(part: &[u8]) -> bool
+    ensures { result ≡ all_digits part.now }
+{
+    part.iter().all(|b| b.is_ascii_digit())
+}
 
 // The number that a field is: 1 to 8 digits, with no leading nought but in 0 itself.
 pub fn number_in(part: &[u8]) -> Option<u32>
     ensures { result ≡ number_in part.now }
 {
-    if part.len() == 0 || part.len() > 8 || (part[0] == b'0' && part.len() > 1) {
+    if part.is_empty() || part.len() > 8 || (part[0] == b'0' && part.len() > 1) {
         return None;
     }
-    let mut n: u32 = 0;
-    for b in part {
-        if *b < b'0' || *b > b'9' {
-            return None;
-        }
-        n = 10 * n + (*b - b'0') as u32;
+    if !all_digits(part) {
+        return None;
     }
-    Some(n)
-}
-
-// The byte with the bit of one step.
-fn bit_of(step: u8) -> u8
-    requires { (0 < step) × (step ≤ 8) }
-    ensures { result ≡ 2 ^ (step - 1) }
-{
-    1 << (step - 1)
+    str::from_utf8(part).ok()?.parse().ok()
 }
 
 // The set of steps that a field is: strictly rising digits 1 to `top`, and 8 at most; none is the empty set.
@@ -37,11 +33,11 @@ pub fn set_in(top: u8, part: &[u8]) -> Option<u8>
     let mut low: u8 = 0;
     let mut steps: u8 = 0;
     for b in part {
-        if *b <= b'0' + low || *b > b'0' + last {
+        if !(b'1' + low..=b'0' + last).contains(b) {
             return None;
         }
         low = *b - b'0';
-        steps += bit_of(low);
+        steps += 1 << (low - 1);
     }
     Some(steps)
 }
@@ -50,7 +46,7 @@ pub fn set_in(top: u8, part: &[u8]) -> Option<u8>
 pub fn run_in(part: &[u8]) -> Option<u8>
     ensures { result ≡ run_in part.now }
 {
-    if part.len() == 0 {
+    if part.is_empty() {
         return None;
     }
     set_in(6, part)
@@ -62,28 +58,19 @@ pub fn field_len(bytes: &[u8]) -> usize
     ensures part { take result bytes.now ≡ cut_first 44 (cut_first 10 bytes.now) }
     ensures within { result ≤ length bytes.now }
 {
-    for (i, b) in bytes.iter().enumerate() {
-        if *b == b',' || *b == b'\n' {
-            return i;
-        }
-    }
-    bytes.len()
+    bytes
+        .iter()
+        .position(|b| *b == b',' || *b == b'\n')
+        .unwrap_or(bytes.len())
 }
 
-// How many fields the line at the front has, or 0 where it lacks its line end.
-pub fn fields_in_line(bytes: &[u8]) -> usize
-    ensures { result ≡ line_count bytes.now }
+// How many fields the line at the front has, or none where it lacks its line end.
+pub fn fields_in_line(bytes: &[u8]) -> Option<usize>
+    ensures count { unwrap_or result 0 ≡ line_count bytes.now }
+    ensures ended { IsSome result ↔ (0 < line_count bytes.now) }
 {
-    let mut commas: usize = 0;
-    for b in bytes {
-        if *b == b'\n' {
-            return commas + 1;
-        }
-        if *b == b',' {
-            commas += 1;
-        }
-    }
-    0
+    let end = bytes.iter().position(|b| *b == b'\n')?;
+    Some(bytes[..end].iter().filter(|b| **b == b',').count() + 1)
 }
 
 // Whether a field is this word.

@@ -1,5 +1,4 @@
 #![tactic(auto)]
 
-mod digits;
 pub mod fields;
 pub mod lines;

@@ -1,4 +1,4 @@
-pub mod Shapes
 pub mod Parts
 pub mod Empties
 pub mod Wholes
+pub mod Shapes

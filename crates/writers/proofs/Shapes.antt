@@ -1,14 +1,19 @@
--- The lines of a sheet as they are put together, field by field. Assumes nothing.
-use Rattle.std.proofs.Common.{◌≡◌, ℕ, List, [], ◌∷◌, ◌++◌, codes, decimal, append_assoc}
-use Rattle.std.proofs.lemmas.List.{append-nil}
-use Rattle.drawing.specs.declared.words.Wire.{Wire}
-use Rattle.sheets.specs.Texts.{wire_text}
+-- The lines of a sheet as they are put together, number by number. Assumes nothing.
+use Rattle.std.proofs.Common.{◌≡◌, ℕ, ◌+◌, ◌<◌, List, [], ◌∷◌, ◌++◌, length, get_or, map, take, decimal, append_assoc, sym, ap, ◌∙◌}
+use Rattle.std.proofs.lemmas.List.{append-nil, take_more, map-append}
+use Rattle.text.specs.Cuts.{led_by}
 
--- a word, eight numbers and the line end are the line of a wire
-pub wire_built : (w : Wire) (z a b g d e k h t l : List ℕ) → z ≡ codes "wire"
-    → a ≡ z ++ (44 ∷ decimal w.a) → b ≡ a ++ (44 ∷ decimal w.b) → g ≡ b ++ (44 ∷ decimal w.g) → d ≡ g ++ (44 ∷ decimal w.d)
-    → e ≡ d ++ (44 ∷ decimal w.e) → k ≡ e ++ (44 ∷ decimal w.k) → h ≡ k ++ (44 ∷ decimal w.h) → t ≡ h ++ (44 ∷ decimal w.t)
-    → l ≡ t ++ (10 ∷ []) → l ≡ wire_text w
-unfolding wire_text
-wire_built w z a b g d e k h t l ez ea eb eg ed ee ek eh et el =
-    rw (el, et, eh, ek, ee, ed, eg, eb, ea, ez) (simp (append_assoc, append-nil))
+-- one part more, led by its comma
+led_more : (fs : List (List ℕ)) (f : List ℕ) → led_by 44 (fs ++ (f ∷ [])) ≡ led_by 44 fs ++ (44 ∷ f)
+led_more [] f = ap (λ x. 44 ∷ x) (append-nil f)
+led_more (g ∷ gs) f = ap (λ x. 44 ∷ (g ++ x)) (led_more gs f) ∙ ap (λ x. 44 ∷ x) (sym (append_assoc g (led_by 44 gs) (44 ∷ f)))
+
+-- a line of one number more
+pub number_more : (l w : List ℕ) (ns : List ℕ) (i : ℕ) → i < length ns → l ≡ w ++ led_by 44 (map decimal (take i ns))
+    → l ++ (44 ∷ decimal (get_or ns i 0)) ≡ w ++ led_by 44 (map decimal (take (i + 1) ns))
+number_more l w ns i h e =
+    let m : map decimal (take (i + 1) ns) ≡ map decimal (take i ns) ++ (decimal (get_or ns i 0) ∷ []) =
+    ap (map decimal) (take_more ns i 0 h) ∙ map-append decimal (take i ns) (get_or ns i 0 ∷ []) in
+    ap (λ x. x ++ (44 ∷ decimal (get_or ns i 0))) e
+    ∙ (append_assoc w (led_by 44 (map decimal (take i ns))) (44 ∷ decimal (get_or ns i 0))
+    ∙ ap (λ x. w ++ x) (sym (ap (led_by 44) m ∙ led_more (map decimal (take i ns)) (decimal (get_or ns i 0)))))

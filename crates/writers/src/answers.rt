@@ -7,6 +7,7 @@ pub mod checks;
 pub const LONGEST: usize = 1207;
 
 // What a program prints of a sheet: the first `len` of the bytes.
+// Kept: an answer is copied and has no heap, which no vector of the kit is; and the model of what is copied may forget no byte past `len`.
 #[derive(Clone, Copy)]
 pub struct Answer {
     bytes: [u8; LONGEST],

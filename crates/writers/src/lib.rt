@@ -2,7 +2,7 @@
 #![tactic(auto)]
 
 pub mod answers;
-mod line_texts;
+pub mod line_texts;
 pub mod states;
 pub mod whole;
 pub mod writing;

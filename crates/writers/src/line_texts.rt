@@ -1,6 +1,6 @@
 // The lines of a sheet, each made as a whole.
-ghost use Rattle.std.specs.Prelude.{◌≡◌};
-ghost use Rattle.text.specs.Scratch.{line_text};
+ghost use Rattle.std.specs.Prelude.{◌≡◌, ◌+◌, ◌*◌, ◌<◌, ◌∷◌, length, map, decimal};
+ghost use Rattle.text.specs.Lines.{line_of};
 ghost use Rattle.sheets.specs.Texts.{head_text, wire_text, end_text, refused_text};
 
 use drawing::words::{Grid, Wire};
@@ -9,7 +9,7 @@ use text::lines::Line;
 
 // The head line.
 pub(crate) fn head_line(grid: Grid, channel: u32) -> Line
-    ensures { line_text result ≡ head_text grid channel }
+    ensures { result ≡ head_text grid channel }
 {
     let mut head = Line::new();
     head.word(b"sheet");
@@ -20,45 +20,47 @@ pub(crate) fn head_line(grid: Grid, channel: u32) -> Line
     head
 }
 
-// The line of a wire.
-pub(crate) fn wire_line(wire: &Wire) -> Line
-    ensures { line_text result ≡ wire_text wire.now }
+// A line of a word and numbers.
+// Inner: who makes a line knows that it fits
+pub fn numbers_line(word: &[u8], numbers: &[u32]) -> Line
+    requires { length word.now + 11 * length numbers.now < 128 }
+    ensures { result ≡ line_of (word.now ∷ map decimal numbers.now) }
 {
     let mut line = Line::new();
-    line.word(b"wire");
-    line.number(wire.a);
-    line.number(wire.b);
-    line.number(wire.g);
-    line.number(wire.d);
-    line.number(wire.e);
-    line.number(wire.k);
-    line.number(wire.h);
-    line.number(wire.t);
+    line.word(word);
+    for n in numbers {
+        line.number(*n);
+    }
     line.close();
     line
 }
 
+// The line of a wire.
+pub(crate) fn wire_line(wire: &Wire) -> Line
+    ensures { result ≡ wire_text wire.now }
+{
+    let numbers = [
+        wire.a, wire.b, wire.g, wire.d, wire.e, wire.k, wire.h, wire.t,
+    ];
+    numbers_line(b"wire", &numbers)
+}
+
 // The end line behind `count` wire lines.
 pub(crate) fn end_line(count: u32) -> Line
-    ensures { line_text result ≡ end_text count }
+    ensures { result ≡ end_text count }
 {
-    let mut end = Line::new();
-    end.word(b"end");
-    end.number(count);
-    end.close();
-    end
+    numbers_line(b"end", &[count])
 }
 
 // The line that names a fault.
 pub(crate) fn refused_line(fault: Fault) -> Line
-    ensures { line_text result ≡ refused_text fault }
+    ensures { result ≡ refused_text fault }
 {
-    let mut refusal = Line::new();
-    refusal.word(b"refused");
-    refusal.number(u32::from(fault.why.number()));
-    refusal.number(u32::from(fault.layer.number()));
-    refusal.number(fault.line);
-    refusal.number(fault.field);
-    refusal.close();
-    refusal
+    let numbers = [
+        u32::from(fault.why.number()),
+        u32::from(fault.layer.number()),
+        fault.line,
+        fault.field,
+    ];
+    numbers_line(b"refused", &numbers)
 }

@@ -5,6 +5,8 @@ ghost use Rattle.drawing.specs.Plans.{bad_grid};
 use drawing::refusals::Refusal;
 use drawing::words::Grid;
 
+// Kept: the three states are types of their own, so that a line that is not due is refused by the compiler.
+
 // A sheet that has no line yet: its text so far has `len` bytes, which is none.
 #[derive(Drop)]
 pub struct Unheaded {

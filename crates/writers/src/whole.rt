@@ -13,6 +13,7 @@ use drawing::refusals::Refusal;
 use drawing::words::Wire;
 
 // A guard of the buffer while a sheet is written: it leaves the buffer noughted, unless the writing was done.
+// Kept: it is dropped on every way out, so it has to know by itself whether the writing was done.
 struct Draft<'a> {
     text: &'a mut [u8],
     done: bool,
@@ -60,11 +61,7 @@ pub fn write_sheet(drawing: &Drawing, text: &mut [u8]) -> Result<usize, Refusal>
     ensures back { ReadsBack (plan_of drawing.now) }
 {
     let mut draft = Draft { text, done: false };
-    match put_sheet(drawing, draft.text) {
-        Some(len) => {
-            draft.done = true;
-            Ok(len)
-        }
-        None => Err(Refusal::TextTooShort),
-    }
+    let len = put_sheet(drawing, draft.text).ok_or(Refusal::TextTooShort)?;
+    draft.done = true;
+    Ok(len)
 }

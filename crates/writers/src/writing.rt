@@ -8,12 +8,11 @@ ghost use Rattle.writers.specs.Writes.{head_reasons, wire_reasons, end_reasons, 
 
 use crate::line_texts::{end_line, head_line, wire_line};
 use crate::states::{Ended, Headed, Refused, Unheaded};
-use drawing::limits::{bad_channel, bad_grid, too_narrow};
+use drawing::limits::{MOST_WIRES, bad_channel, bad_grid, too_narrow};
 use drawing::refusals::Refusal;
 use drawing::words::{Grid, Wire};
 
-// How many wire lines a sheet has at the most.
-const MOST_WIRES: usize = 24;
+// Kept: the tests of a drawing's opening and edits stand here again, since a refused line hands the sheet back, which their `?` would not.
 
 impl Unheaded {
     // A sheet at the front of a buffer.
@@ -41,15 +40,15 @@ impl Unheaded {
         if too_narrow(grid, channel, 0) {
             return Err(Refused::new(self, Refusal::TooNarrow));
         }
-        match head_line(grid, channel).add(text, self.len) {
-            Some(len) => Ok(Headed {
-                len,
-                grid,
-                channel,
-                count: 0,
-            }),
-            None => Err(Refused::new(self, Refusal::TextTooShort)),
-        }
+        let Some(len) = head_line(grid, channel).add(text, self.len) else {
+            return Err(Refused::new(self, Refusal::TextTooShort));
+        };
+        Ok(Headed {
+            len,
+            grid,
+            channel,
+            count: 0,
+        })
     }
 }
 
@@ -67,25 +66,25 @@ impl Headed {
         if too_narrow(self.grid, self.channel, self.count + 1) {
             return Err(Refused::new(self, Refusal::TooNarrow));
         }
-        match wire_line(wire).add(text, self.len) {
-            Some(len) => Ok(Headed {
-                len,
-                grid: self.grid,
-                channel: self.channel,
-                count: self.count + 1,
-            }),
-            None => Err(Refused::new(self, Refusal::TextTooShort)),
-        }
+        let Some(len) = wire_line(wire).add(text, self.len) else {
+            return Err(Refused::new(self, Refusal::TextTooShort));
+        };
+        Ok(Headed {
+            len,
+            grid: self.grid,
+            channel: self.channel,
+            count: self.count + 1,
+        })
     }
 
     // Adds the end line.
     pub fn end(self, text: &mut [u8]) -> Result<Ended, Refused<Headed>>
         ensures { Adds (end_reasons self.count self.len (length text.old)) result self (λ e. e.len ≡ self.len + length (end_text self.count)) (end_text self.count) self.len text.old text.new }
     {
-        match end_line(self.count as u32).add(text, self.len) {
-            Some(len) => Ok(Ended { len }),
-            None => Err(Refused::new(self, Refusal::TextTooShort)),
-        }
+        let Some(len) = end_line(self.count as u32).add(text, self.len) else {
+            return Err(Refused::new(self, Refusal::TextTooShort));
+        };
+        Ok(Ended { len })
     }
 
     // How many bytes the text has so far.

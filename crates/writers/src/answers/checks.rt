@@ -1,7 +1,6 @@
 // The answer to a sheet: the sheet again, or the line that names its first fault.
 ghost use Rattle.std.specs.Prelude.{◌≡◌, take};
 ghost use Rattle.drawing.specs.Shown.{plan_of};
-ghost use Rattle.text.specs.Scratch.{line_text};
 ghost use Rattle.sheets.specs.Texts.{sheet_text, refused_text};
 ghost use Rattle.writers.specs.Answers.{answer_bytes, checked_text};
 
@@ -14,7 +13,7 @@ use sheets::reading::read_sheet;
 use text::lines::Line;
 
 // How much of an input is read as a sheet.
-const READ: usize = 4096;
+pub const READ: usize = 4096;
 
 impl Answer {
     // The bytes to print.
@@ -29,21 +28,17 @@ impl Answer {
         ensures { answer_bytes result ≡ sheet_text (plan_of drawing.now) }
     {
         let mut bytes = [0; LONGEST];
-        match write_sheet(drawing, &mut bytes) {
-            Ok(len) => Answer { bytes, len },
-            Err(_) => unreachable(),
-        }
+        let len = write_sheet(drawing, &mut bytes).unwrap();
+        Answer { bytes, len }
     }
 
     // One line.
     pub fn line(line: &Line) -> Answer
-        ensures { answer_bytes result ≡ line_text line.now }
+        ensures { answer_bytes result ≡ line.now }
     {
         let mut bytes = [0; LONGEST];
-        match line.add(&mut bytes, 0) {
-            Some(len) => Answer { bytes, len },
-            None => unreachable(),
-        }
+        let end = line.add(&mut bytes, 0).unwrap();
+        Answer { bytes, len: end }
     }
 
     // The line that names a fault.

@@ -1,37 +1,23 @@
--- One wire's power goes from what is left to the sum.
-use Rattle.std.proofs.Common.{map, ap, arith}
-use Rattle.pricing.specs.Lists.{total}
+-- There are at most 24 wires, and each power is at most 480,000.
+use Rattle.std.proofs.Common.{rules, tests, arith, ◌∙◌, map}
+use Rattle.std.proofs.lemmas.Iterator.{YieldsList-from_map}
+use Rattle.std.proofs.lemmas.Iterator.Adapters.{fits_from_length, at_most_from_yields_List}
+use Rattle.std.proofs.lemmas.Iterator.Consumers.{YieldsList-at, YieldsList-from_first, sum_from_yields_List}
+use Rattle.pricing.specs.Allocations.{lay, laid}
 use Rattle.pricing.specs.WirePrices.{wire_power}
-use Rattle.pricing.proofs.Accepted.{limited_at, steps_at}
-use Rattle.pricing.proofs.Rests.{rest_start, rest_more, rest_done}
+use Rattle.pricing.proofs.Lists.{sum_total}
+use Rattle.pricing.proofs.Laying.{laid_few}
 use Rattle.pricing.proofs.prices.power_of.Goals as goal
 
-pub wire_power-sum-requires : goal.wire_power-sum-requires
-wire_power-sum-requires c =
-    let qs = c.args.wires.now in
-    let ws = c.args.widths.now in
-    let ss = c.args.spaces.now in
-    record {
-      limited = limited_at qs ws ss c.requires c.loop-i.i c.loop-i-test.true;
-      stepped = steps_at qs ws ss c.requires c.loop-i.i c.loop-i-test.true;
-    }
-
-pub loop-i-init : goal.loop-i-init
-loop-i-init c =
-    let start = ap (λ ys. total (map wire_power ys)) (rest_start c.args.wires.now c.args.widths.now c.args.spaces.now c.requires.wide c.requires.apart) in
-    (omega arith, omega arith)
-
-pub loop-i-preserved : goal.loop-i-preserved
-loop-i-preserved c =
-    let more = ap (λ ys. total (map wire_power ys)) (rest_more c.args.wires.now c.args.widths.now c.args.spaces.now c.requires.wide c.requires.apart c.loop-i.i c.loop-i-test.true) in
-    let a = c.loop-i.invariant.0 in
-    let b = c.loop-i.invariant.1 in
-    let exact = c.wire_power-sum.ensures.exact in
-    let small = c.wire_power-sum.ensures.small in
-    (omega arith, omega arith)
+pub sum-requires-clause-fits : goal.sum-requires-clause-fits
+sum-requires-clause-fits c =
+    let few = laid_few c.args.wires.now c.args.allocation.now in
+    fits_from_length _ _ 24 _
+    (at_most_from_yields_List (YieldsList-at c.map.ensures.source (YieldsList-from_first (λ y. y) (λ s. lay s.wires.now s.widths.now s.left s.spaces.now) {s = c.lays.result} (laid c.args.wires.now c.args.allocation.now) c.lays.ensures)) (omega (arith, few, c.requires.few)))
+    c.map.ensures.closure (omega arith) (λ x r q k. search (rules, tests))
 
 pub returns : goal.returns
 returns c =
-    let done = ap (λ ys. total (map wire_power ys)) (rest_done c.args.wires.now c.args.widths.now c.args.spaces.now c.requires.wide c.requires.apart c.loop-i.i c.loop-i-test.false) in
-    let a = c.loop-i.invariant.0 in
-    omega arith
+    let road = YieldsList-from_first (λ y. y) (λ s. lay s.wires.now s.widths.now s.left s.spaces.now) {s = c.lays.result} (laid c.args.wires.now c.args.allocation.now) c.lays.ensures in
+    sum_from_yields_List c.map.result c.sum.result c.sum.ensures.ran (YieldsList-from_map _ wire_power (YieldsList-at c.map.ensures.source road) c.map.ensures.closure (λ x r q k. search (rules, tests)))
+    ∙ sum_total (map wire_power (laid c.args.wires.now c.args.allocation.now))

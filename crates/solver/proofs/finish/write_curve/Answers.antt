@@ -1,116 +1,103 @@
 -- One point and its witness more.
-use Rattle.std.proofs.Common.{◌≡◌, ℕ, ◌+◌, ◌-◌, ◌<◌, List, length, get_or, replicate, Some, None, sym, refl, ap, ◌∙◌, subst, arith}
+use Rattle.std.proofs.Common.{◌≡◌, ℕ, ◌+◌, ◌<◌, ◌≤◌, List, ◌∷◌, length, set, replicate, sym, ap, ◌∙◌, subst, add-one, arith, rules}
+use borrow.Author.Rules.{scaled_Fits}
 use lib.ListN.{length-replicate}
 use Rattle.pricing.specs.Measures.{meaning}
 use Rattle.frontier.specs.declared.records.Point.{Point}
 use Rattle.frontier.specs.declared.records.State.{State}
-use Rattle.solver.specs.Front.{blank_state, point_in, points_in, front, Heads}
-use Rattle.solver.specs.Written.{blank_point, Filled, Partly}
-use Rattle.solver.proofs.Bests.{reads}
-use Rattle.solver.proofs.Merges.{heads_start, heads_later}
-use Rattle.solver.proofs.Fills.{fill_start, fill_more, turn, over, slot_in, slot_same, read_point}
+use Rattle.frontier.specs.Orders.{blank_point}
+use Rattle.solver.specs.declared.points.Front.{Front}
+use Rattle.solver.specs.Front.{row_at, point_in, points_in, front, Going}
+use Rattle.solver.specs.Written.{Filled}
+use Rattle.solver.proofs.Fills.{drop_head, drop_none, fill_start, fill_more, slot_in, slot_same}
 use Rattle.solver.proofs.finish.write_curve.Goals as goal
 
-pub next-init : goal.next-init
-next-init g c =
+pub loop-row-init : goal.loop-row-init
+loop-row-init g c =
     let V = g.row.M-Value.Denot in
-    let m = meaning g.M.DelayMeasure c.args.measure.now in
-    let e = g.M.DelayMeasure.empty in
-    let F = front m None (points_in c.args.rows.now) in
-    let ps = c.blank_points.new.points in
-    let st = c.blank.new.slots in
-    let ep : length ps ≡ length c.args.points.now = ap length c.blank_points.ensures ∙ length-replicate (length c.args.points.now) (blank_point e) in
-    let es : length st ≡ length c.args.strip.now = ap length c.blank.ensures ∙ length-replicate (length c.args.strip.now) 0 in
-    let p : ps ≡ replicate (length ps) (blank_point e) = c.blank_points.ensures ∙ ap (λ k. replicate k (blank_point e)) (sym ep) in
-    let s : st ≡ replicate (length st) 0 = c.blank.ensures ∙ ap (λ k. replicate k 0) (sym es) in (
-      record { known = tt; to_come = refl },
+    let S = Front g.row.M.Denot V in
+    let kind = g.M.DelayMeasure in
+    let e = kind.EMPTY in
+    let it = c.args.runs in
+    let F = front (meaning kind it.measure.now) it.after (points_in it.rows.now) in
+    let q : c.into_iter-row-iterator.result ≡ it = c.into_iter-row-iterator.ensures.into_iter_gives in
+    let ps = c.blank_all.new.list in
+    let st = c.fill.new.self in
+    let blank = c.fill.ensures.after (λ y h. h) in
+    let ep : length ps ≡ length c.args.points.now = ap length c.blank_all.ensures ∙ length-replicate (length c.args.points.now) (blank_point e) in
+    let es : length st ≡ length c.args.strip.now = ap length blank ∙ length-replicate (length c.args.strip.now) 0 in
+    let p : ps ≡ replicate (length ps) (blank_point e) = c.blank_all.ensures ∙ ap (λ k. replicate k (blank_point e)) (sym ep) in
+    let s : st ≡ replicate (length st) 0 = blank ∙ ap (λ k. replicate k 0) (sym es) in (
+      subst (λ (z : S). Going (meaning kind z.measure.now) e z.rows.now (kind.reach z.measure.now) z.cuts z.heads z.after) (sym q) c.requires.going,
+      tt,
+      ap (λ (z : S). z.rows.now) q,
+      sym (ap (λ (z : S). front (meaning kind z.measure.now) z.after (points_in z.rows.now)) q),
       subst (λ (z : List (Point V)). Filled e c.args.table.now c.args.first c.args.wires F 0 (length ps) (length st) z st) (sym p)
           (subst (λ (z : List ℕ). Filled e c.args.table.now c.args.first c.args.wires F 0 (length ps) (length st) (replicate (length ps) (blank_point e)) z) (sym s)
           (fill_start e c.args.table.now c.args.first c.args.wires F (length ps) (length st))),
-      heads_start m e c.args.rows.now c.args.cuts.now c.requires.runs c.first_heads-heads.result c.first_heads-heads.ensures.six c.first_heads-heads.ensures.same,
     )
 
-pub returns-then-row-rows : goal.returns-then-row-rows
-returns-then-row-rows g c =
-    let V = g.row.M-Value.Denot in
-    let m = meaning g.M.DelayMeasure c.args.measure.now in
-    let e = g.M.DelayMeasure.empty in
-    let rows = c.args.rows.now in
-    let F = front m None (points_in rows) in
-    let o = over m (g.met.M.DelayMeasure.lawful c.args.measure.now) e rows c.requires.reached c.next.n c.next.after c.next.invariant.0 c.next_row-row.result c.next_row-row.ensures.next c.if-row-rows.true in
-    let w = c.next.invariant.1.within in
-    let ep : length c.blank_points.new.points ≡ length c.args.points.now = ap length c.blank_points.ensures ∙ length-replicate (length c.args.points.now) (blank_point e) in
-    let es : length c.blank.new.slots ≡ length c.args.strip.now = ap length c.blank.ensures ∙ length-replicate (length c.args.strip.now) 0 in
-    record {
-      count = omega arith;
-      filled = subst (λ (z : ℕ). Filled e c.args.table.now c.args.first c.args.wires F c.next.n z (length c.args.strip.now) c.next.points c.next.strip) ep
-          (subst (λ (z : ℕ). Filled e c.args.table.now c.args.first c.args.wires F c.next.n (length c.blank_points.new.points) z c.next.points c.next.strip) es c.next.invariant.1);
-    }
+pub overflow_add-slot : goal.overflow_add-slot
+overflow_add-slot g c =
+    let rows = c.args.runs.rows.now in
+    let h : c.in-Some.row < length rows = subst (λ (z : List (State g.row.M-Value.Denot)). c.in-Some.row < length z) c.loop-row.invariant.2 c.in-Some.ensures.steps.1.0 in
+    let i = slot_in g.M.DelayMeasure.EMPTY c.args.table.now rows c.args.first c.in-Some.row c.requires.part h in
+    omega arith
 
-pub put_point-requires : goal.put_point-requires
-put_point-requires g c =
-    let m = meaning g.M.DelayMeasure c.args.measure.now in
-    let t = turn m (g.met.M.DelayMeasure.lawful c.args.measure.now) g.M.DelayMeasure.empty c.args.rows.now c.requires.reached c.next.n c.next.after c.next.invariant.0 c.next_row-row.result
-    c.next_row-row.ensures.next c.if-row-rows.false in
-    let lt = t.0 in
+pub price_at-requires : goal.price_at-requires
+price_at-requires g c =
+    let rows = c.args.runs.rows.now in
+    let h : c.in-Some.row < length rows = subst (λ (z : List (State g.row.M-Value.Denot)). c.in-Some.row < length z) c.loop-row.invariant.2 c.in-Some.ensures.steps.1.0 in
+    slot_in g.M.DelayMeasure.EMPTY c.args.table.now rows c.args.first c.in-Some.row c.requires.part h
+
+pub offset_bounds-points-n : goal.offset_bounds-points-n
+offset_bounds-points-n g c =
+    let F = front (meaning g.M.DelayMeasure c.args.runs.measure.now) c.args.runs.after (points_in c.args.runs.rows.now) in
+    let d = drop_head (blank_point g.M.DelayMeasure.EMPTY) F c.loop-row.n _ _ (c.loop-row.invariant.3 ∙ c.in-Some.ensures.steps.1.1) in
+    let lt : c.loop-row.n < length F = d.0 in
     let sl = c.requires.slots in
-    omega arith
+    let in_points : c.loop-row.n < length c.loop-row.points = omega arith in
+    scaled_Fits _ (length c.loop-row.points) _ in_points (search rules)
 
-pub overflow_add-first : goal.overflow_add-first
-overflow_add-first g c =
-    let i = slot_in g.M.DelayMeasure.empty c.args.table.now c.args.rows.now c.args.first c.next_row-row.result c.requires.part c.if-row-rows.false in
-    omega arith
-
-pub write_witness-requires : goal.write_witness-requires
-write_witness-requires g c =
-    let m = meaning g.M.DelayMeasure c.args.measure.now in
-    let t = turn m (g.met.M.DelayMeasure.lawful c.args.measure.now) g.M.DelayMeasure.empty c.args.rows.now c.requires.reached c.next.n c.next.after c.next.invariant.0 c.next_row-row.result
-    c.next_row-row.ensures.next c.if-row-rows.false in
-    let lt = t.0 in
-    let i = slot_in g.M.DelayMeasure.empty c.args.table.now c.args.rows.now c.args.first c.next_row-row.result c.requires.part c.if-row-rows.false in
-    let ro = c.requires.room in
-    record {
-      safe = (i, c.requires.back (c.args.first + c.next_row-row.result) (omega arith) i);
-      few = c.requires.few;
-      room = omega arith;
-    }
-
-pub next-smaller : goal.next-smaller
-next-smaller g c =
-    let m = meaning g.M.DelayMeasure c.args.measure.now in
-    let t = turn m (g.met.M.DelayMeasure.lawful c.args.measure.now) g.M.DelayMeasure.empty c.args.rows.now c.requires.reached c.next.n c.next.after c.next.invariant.0 c.next_row-row.result
-    c.next_row-row.ensures.next c.if-row-rows.false in
-    let lt = t.0 in
-    let goal : length (front m None (points_in c.args.rows.now)) - (c.next.n + 1) < length (front m None (points_in c.args.rows.now)) - c.next.n = omega arith in
-    goal
-
-pub next-preserved : goal.next-preserved
-next-preserved g c =
+pub loop-row-preserved : goal.loop-row-preserved
+loop-row-preserved g c =
     let V = g.row.M-Value.Denot in
-    let m = meaning g.M.DelayMeasure c.args.measure.now in
-    let e = g.M.DelayMeasure.empty in
+    let kind = g.M.DelayMeasure in
+    let e = kind.EMPTY in
     let table = c.args.table.now in
-    let rows = c.args.rows.now in
-    let F = front m None (points_in rows) in
-    let n = c.next.n in
-    let r = c.next_row-row.result in
+    let rows = c.args.runs.rows.now in
+    let F = front (meaning kind c.args.runs.measure.now) c.args.runs.after (points_in rows) in
+    let n = c.loop-row.n in
+    let r = c.in-Some.row in
     let first = c.args.first in
-    let wires = c.args.wires in
-    let h : r < length rows = c.if-row-rows.false in
-    let t = turn m (g.met.M.DelayMeasure.lawful c.args.measure.now) e rows c.requires.reached n c.next.after c.next.invariant.0 r c.next_row-row.ensures.next h in
+    let inv = c.loop-row.invariant in
+    let st = c.in-Some.ensures.steps in
+    let now = c.next.new.self in
+    let left = front (meaning kind now.measure.now) now.after (points_in now.rows.now) in
+    let h : r < length rows = subst (λ (z : List (State V)). r < length z) inv.2 st.1.0 in
+    let P = point_in (row_at e rows r) in
+    let d = drop_head (blank_point e) F n P left (inv.3 ∙ st.1.1 ∙ ap (λ (z : List (State V)). point_in (row_at e z r) ∷ left) inv.2) in
     let i = slot_in e table rows first r c.requires.part h in
     let same = slot_same e table rows first r c.requires.part h in
-    let read = read_point e table rows first r c.requires.part h c.index-rows-row.result c.index-rows-row-in-next.result in
-    let ep : length c.blank_points.new.points ≡ length c.args.points.now = ap length c.blank_points.ensures ∙ length-replicate (length c.args.points.now) (blank_point e) in
-    let es : length c.blank.new.slots ≡ length c.args.strip.now = ap length c.blank.ensures ∙ length-replicate (length c.args.strip.now) 0 in
+    let wrote : set c.loop-row.points n P ≡ set c.loop-row.points n c.price_at.result = ap (λ (z : Point V). set c.loop-row.points n z) (sym (c.price_at.ensures ∙ ap point_in same)) in
+    let ps = length c.blank_all.new.list in
+    let ss = length c.fill.new.self in
+    let ep : ps ≡ length c.args.points.now = ap length c.blank_all.ensures ∙ length-replicate (length c.args.points.now) (blank_point e) in
+    let es = c.fill.ensures.len in
     let sl = c.requires.slots in
     let ro = c.requires.room in (
-      subst (λ (s : State V). Partly m rows (n + 1) (Some s.delay)) (reads rows r (blank_state e) c.index-rows-row-in-next-2.result h) t.2,
-      subst (λ (z : List (Point V)). Filled e table first wires F (n + 1) (length c.blank_points.new.points) (length c.blank.new.slots) z c.write_witness.new.strip) (sym c.put_point.ensures)
-          (fill_more e table first wires F (length c.blank_points.new.points) (length c.blank.new.slots) n c.next.points c.next.strip c.write_witness.new.strip c.next.invariant.1
-          (record { power = (get_or rows r c.index-rows-row.result).power; delay = (get_or rows r c.index-rows-row-in-next.result).delay }) t.0 (t.1 ∙ sym (ap point_in same) ∙ read) (omega arith) (omega arith) c.requires.few
-          (first + r) (omega arith) i read c.write_witness.ensures c.write_witness.auto.strip),
-      subst (λ (s : State V). Heads m e rows c.args.cuts.now (Some s.delay) c.next_row-row.new.heads) (reads rows r (blank_state e) c.index-rows-row-in-next-2.result h)
-          (heads_later m e rows c.args.cuts.now c.requires.runs (g.met.M.DelayMeasure.lawful c.args.measure.now) c.requires.reached c.next.after c.next.invariant.0.known r
-          c.next_row-row.ensures.next h c.next_row-row.new.heads c.next_row-row.ensures.gone),
+      c.in-Some.ensures.goes.keeps,
+      tt,
+      st.0 ∙ inv.2,
+      rw add-one d.2,
+      subst (λ (z : List (Point V)). Filled e table first c.args.wires F (n + 1) ps ss z c.write_witness.new.strip) wrote
+          (fill_more e table first c.args.wires F ps ss n c.loop-row.points c.loop-row.strip c.write_witness.new.strip inv.4 P d.0 d.1 (omega arith) (omega arith) c.requires.few
+          (first + r) (omega arith) i (ap point_in same) c.write_witness.ensures c.write_witness.auto.strip),
     )
+
+pub returns-clause-count : goal.returns-clause-count
+returns-clause-count g c =
+    let F = front (meaning g.M.DelayMeasure c.args.runs.measure.now) c.args.runs.after (points_in c.args.runs.rows.now) in
+    let none : length F ≤ c.loop-row.n = drop_none F c.loop-row.n (c.loop-row.invariant.3 ∙ c.in-None.ensures.steps.1) in
+    let within = c.loop-row.invariant.4.within in
+    omega arith

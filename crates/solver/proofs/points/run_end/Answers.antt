@@ -1,21 +1,17 @@
--- The first row of a larger last space, and all that follow.
-use Rattle.std.proofs.Common.{◌<◌, length, ap, arith}
+-- Last spaces do not fall.
+use Rattle.std.proofs.Common.{ℕ, leb, rules, tests}
+use Rattle.std.proofs.lemmas.List.Sorted.{IsNonDecreasingBy-from_default, IsPartitionedBy-leb, IsPartitionPoint-from_clause}
 use Rattle.frontier.specs.declared.records.State.{State}
-use Rattle.solver.specs.Front.{blank_state, row_at}
-use Rattle.solver.proofs.Bests.{reads}
+use Rattle.frontier.specs.Orders.{blank_state}
+use Rattle.solver.proofs.Orders.{cut_of}
 use Rattle.solver.proofs.points.run_end.Goals as goal
 
-pub returns-then-rows-i : goal.returns-then-rows-i
-returns-then-rows-i g c =
-    let e = g.M.DelayMeasure.empty in
+pub returns : goal.returns
+returns g c =
+    let V = g.row.M-Value.Denot in
+    let e = g.M.DelayMeasure.EMPTY in
     let rows = c.args.rows.now in
-    let i = c.loop-i.i in
-    let here : i < length rows = c.loop-i-test.true in
-    let same = ap (λ (s : State g.row.M-Value.Denot). s.last) (reads rows i c.index-rows-i.result (blank_state e) here) in
-    let t = c.if-rows-i.true in
-    let big : c.args.k < (row_at e rows i).last = omega arith in
-    record {
-      within = omega arith;
-      below = c.loop-i.invariant;
-      above = λ j a h. let r = c.requires.rises i j a h in omega arith;
-    }
+    let last : State V → ℕ = λ s. s.last in
+    cut_of e rows c.args.k c.partition_point.result c.partition_point.ensures.bound
+    (IsPartitionPoint-from_clause (λ (s : State V). leb s.last c.args.k) rows c.partition_point.result c.partition_point.ensures.partitioned
+    (IsPartitionedBy-leb last rows c.args.k (IsNonDecreasingBy-from_default last rows (blank_state e) c.requires)) (λ a r q h. search (rules, tests)))

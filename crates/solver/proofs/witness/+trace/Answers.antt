@@ -10,7 +10,7 @@ use Rattle.solver.proofs.witness.+trace.Goals as goal
 
 pub trace-requires : goal.trace-requires
 trace-requires g t c κs within =
-    let e = g.M.DelayMeasure.empty in
+    let e = g.M.DelayMeasure.EMPTY in
     let table = c.args.table.now in
     let i = c.args.slot in
     let j : c.args.stage ≡ suc (c.args.stage - 1) = let h = c.if-stage-eq0.false in omega arith in
@@ -22,7 +22,7 @@ trace-requires g t c κs within =
 pub returns-else-stage-eq0 : goal.returns-else-stage-eq0
 returns-else-stage-eq0 g t c =
     let V = g.row.M-Value.Denot in
-    let e = g.M.DelayMeasure.empty in
+    let e = g.M.DelayMeasure.EMPTY in
     let table = c.args.table.now in
     let k = c.args.stage - 1 in
     let i = c.args.slot in

@@ -1,11 +1,11 @@
--- The used widths before u are noted, and the others are as they were.
-use Rattle.std.proofs.Common.{◌≡◌, ℕ, ◌<◌, ◌≤◌, length, get_or, None}
+-- The used widths that are passed are noted, and the others are as they were.
+use Rattle.std.proofs.Common.{◌≡◌, ℕ, ◌<◌, ◌≤◌, get_or, None}
 use Rattle.pricing.specs.Measures.{meaning}
-use Rattle.stages.specs.Table.{noted}
+use Rattle.stages.specs.Table.{lesser}
 use Rattle.stages.proofs.delays.note_delay.Given as goal
 
-abbrev pub invariant-loop-u : goal.invariant-loop-u
-invariant-loop-u g l =
-    (length l.least ≡ 301)
-    × ((u : ℕ) → u < 301 → u < l.u → get_or l.least u None ≡ noted (meaning g.M.DelayMeasure l.measure) l.table l.end (get_or l.initial.least u None) u l.used l.delay)
-    × ((u : ℕ) → u < 301 → l.u ≤ u → get_or l.least u None ≡ get_or l.initial.least u None)
+abbrev pub invariant-loop-place : goal.invariant-loop-place
+invariant-loop-place g l = record {
+  passed : (u : ℕ) → u < l.place-index → get_or l.place-items u None ≡ lesser (meaning g.M.DelayMeasure l.measure) l.table l.end (get_or l.initial.place-items u None) l.x.delay;
+  others : (u : ℕ) → l.place-index ≤ u → get_or l.place-items u None ≡ get_or l.initial.place-items u None;
+}

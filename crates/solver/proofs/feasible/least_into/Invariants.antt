@@ -1,6 +1,0 @@
--- The least behind the first places.
-use Rattle.solver.specs.Least.{Into}
-use Rattle.solver.proofs.feasible.least_into.Given as goal
-
-abbrev pub invariant-loop-i : goal.invariant-loop-i
-invariant-loop-i g l = Into (g.B.RuleBook.admits l.book) l.widths l.channel l.row l.right l.i l.best

@@ -1,6 +1,0 @@
--- No place before has a used width.
-use Rattle.std.proofs.Common.{ℕ, ◌<◌, get_or}
-use Rattle.solver.proofs.feasible.some_below.Given as goal
-
-abbrev pub invariant-loop-i : goal.invariant-loop-i
-invariant-loop-i l = (k : ℕ) → k < l.i → get_or l.row k 0 < 1000 → ⊥

@@ -1,6 +1,0 @@
-use Rattle.std.proofs.Common.{rules}
-use Rattle.text.proofs.Placed.{take_placed}
-use Rattle.text.proofs.lines.Line.numeral.Goals as goal
-
-pub returns : goal.returns
-returns c = search (rules, take_placed)
