@@ -6,7 +6,8 @@ use Rattle.drawing.specs.Lists.{all}
 use Rattle.drawing.specs.Plans.{within_limits}
 use Rattle.rules.specs.Steps.{step, three_steps}
 use Rattle.pricing.specs.Allocations.{Laid, Allocation, lay, lay_between, laid}
-use Rattle.pricing.specs.Ready.{priceable, Ready}
+use Rattle.pricing.specs.Ready.{Ready}
+use Rattle.pricing.specs.WirePrices.{priceable}
 
 -- wires within their limits, with widths and spaces that are steps, can be priced as they lie
 pub priceable_lay : (qs : List Wire) (ws : List ℕ) (l : ℕ) (ss : List ℕ)

@@ -1,14 +1,10 @@
 -- What the sums over an allocation's wires are asked of. Assumes nothing.
-use Rattle.std.specs.Prelude.{◌≡◌, ◌+◌, ◌≤◌, Bool, true, ◌&&◌, List, length}
+use Rattle.std.specs.Prelude.{◌≡◌, ◌+◌, ◌≤◌, true, List, length}
 use Rattle.drawing.specs.declared.words.Wire.{Wire}
 use Rattle.drawing.specs.Lists.{all}
 use Rattle.drawing.specs.Plans.{within_limits}
-use Rattle.rules.specs.Steps.{step, three_steps}
-use Rattle.pricing.specs.Allocations.{Laid, Allocation}
-
--- a wire within its limits, and three steps
-abbrev pub priceable : Laid → Bool
-priceable y = within_limits y.wire && three_steps y.left y.width y.right
+use Rattle.rules.specs.Steps.{step}
+use Rattle.pricing.specs.Allocations.{Allocation}
 
 -- wires of a drawing, with a width for each and one space more, all of them steps
 pub record Ready (qs : List Wire) (x : Allocation) : Type 0 where

@@ -1,7 +1,7 @@
 //! Wires as they lie between spaces, and what each costs.
 ghost use Rattle.std.specs.Prelude.{◌≡◌, ◌<◌, ◌≤◌, true};
 ghost use Rattle.pricing.specs.Allocations.{admits_laid};
-ghost use Rattle.pricing.specs.Ready.{priceable};
+ghost use Rattle.pricing.specs.WirePrices.{priceable};
 ghost use Rattle.pricing.specs.WirePrices.{wire_delay, wire_power};
 
 use drawing::Wire;
@@ -21,7 +21,7 @@ pub struct LaidWire {
 impl Model for LaidWire {
     ghost use Rattle.std.specs.Prelude.{◌≡◌, true};
     ghost use Rattle.pricing.specs.Allocations.{Laid};
-    ghost use Rattle.pricing.specs.Ready.{priceable};
+    ghost use Rattle.pricing.specs.WirePrices.{priceable};
 
     ghost Value = { Laid };
 

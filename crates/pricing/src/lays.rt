@@ -3,7 +3,7 @@ ghost use Rattle.std.specs.Prelude.{◌≡◌, true};
 ghost use Rattle.std.specs.Iterator.{YieldsFirst, item_count};
 ghost use Rattle.drawing.specs.Lists.{all};
 ghost use Rattle.pricing.specs.Allocations.{lay};
-ghost use Rattle.pricing.specs.Ready.{priceable};
+ghost use Rattle.pricing.specs.WirePrices.{priceable};
 
 use crate::laid::LaidWire;
 use drawing::Wire;

@@ -2,8 +2,9 @@
 use Rattle.std.proofs.Common.{◌≡◌, ℕ, ◌+◌, ◌<◌, ◌≤◌, Bool, not, ◌||◌, ◌==◌, List, [], ◌∷◌, length, position, filter, take, Some, None, Option, refl, ap, ◌∙◌, ⊎_elim, one-add, arith}
 use Rattle.std.specs.List.{position_or_len}
 use Rattle.std.specs.Option.{unwrap_or}
-use Rattle.std.proofs.lemmas.List.Sums.{prefix_len-le-length}
-use Rattle.std.proofs.lemmas.Bool.{cases_eq, eq-eqb, ne_eqb}
+use Rattle.std.proofs.lemmas.List.Sums.{prefix_len-le-length, position_or_len_is}
+use Rattle.memchr.specs.Find.{IsFirstByte, is_byte}
+use Rattle.std.proofs.lemmas.Bool.{false_from_ne_true, cases_eq, eq-eqb, ne_eqb}
 use Rattle.std.proofs.lemmas.Bool.Decides.{nat_tests}
 use Rattle.text.specs.Cuts.{cut_first, cut_rest, cut_at, field_of, closed_count, line_count}
 
@@ -57,6 +58,17 @@ pub line_open : (bs : List ℕ) → position (λ b. b == 10) bs ≡ None → lin
 line_open bs e =
     let h : length bs ≤ position_or_len (λ b. b == 10) bs = grind (arith, nat_tests) in
     ap (λ ms. closed_count ms (length (cut_at 44 (cut_first 10 bs)))) (rest_none 10 bs h)
+
+-- the first byte 10 that is found is at that place
+pub found_first : (bs : List ℕ) (r : Option ℕ) → IsFirstByte (is_byte 10) bs r → r ≡ position (λ b. b == 10) bs
+found_first bs None h =
+    let e : position_or_len (λ b. b == 10) bs ≡ length bs =
+    position_or_len_is (λ b. b == 10) bs (length bs) 0 (omega arith) (λ k l. false_from_ne_true _ (h k (omega arith) l)) (λ l. absurd (omega arith)) in
+    grind (arith, nat_tests)
+found_first bs (Some k) h =
+    let e : position_or_len (λ b. b == 10) bs ≡ k =
+    position_or_len_is (λ b. b == 10) bs k 0 (omega (arith, h.0.high)) (λ j l. false_from_ne_true _ (h.0.before j (omega arith) l)) (λ l. h.1) in
+    grind (arith, nat_tests, h.0.high)
 
 -- where another part follows, the count stands
 count_stands : (ms : List (List ℕ)) (n : ℕ) → 0 < length ms → closed_count ms n ≡ n

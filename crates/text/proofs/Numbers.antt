@@ -1,13 +1,10 @@
 -- A number below 10 ^ 8 and its field say the same. Assumes nothing.
-use Rattle.std.proofs.Common.{◌≡◌, ℕ, ◌^◌, ◌<◌, ◌≤◌, true, List, [], ◌∷◌, length, get_or, Some, None, Ok, Err, Result, MatchResult, Bor, decimal, sym, refl, ap, ◌∙◌, arith, rules}
+use Rattle.std.proofs.Common.{◌≡◌, ℕ, ◌+◌, ◌-◌, ◌*◌, ◌%◌, ◌^◌, ◌<◌, ◌≤◌, true, List, [], ◌∷◌, length, get_or, fold, Some, decimal, sym, refl, pow-suc, add-one, arith, rules}
+use native.Mathlib.Nat.{pow-le-pow_right}
 use Rattle.std.specs.Char.{is_ascii_digit}
 use Rattle.std.specs.List.{list_all}
-use Rattle.std.specs.Result.{result_ok}
-use Rattle.std.specs.Str.{IsUtf8}
-use Rattle.std.specs.Str.Parse.{ParsesUnsigned}
-use Rattle.std.proofs.lemmas.Str.{IsUtf8-from_ascii}
-use Rattle.std.proofs.lemmas.Str.Parse.{IsNumeralModel, numerals_by_fold, digits_value_short, parse_gives}
-use Rattle.std.proofs.lemmas.Fmt.{digits_decimal, digits_value-decimal, decimal-digits_value, length-decimal-le, decimal_nonempty, first_decimal, IsAscii-from_digits}
+use Rattle.std.proofs.lemmas.Str.Parse.{IsNumeralModel, numerals_by_fold, digits_value_short}
+use Rattle.std.proofs.lemmas.Fmt.{digits_decimal, digits_value-decimal, decimal-digits_value, length-decimal-le, decimal_nonempty, first_decimal}
 use Rattle.std.proofs.lemmas.Bool.Decides.{nat_tests}
 use Rattle.text.specs.Numbers.{all_digits, spelled_after, number_in}
 use Rattle.text.proofs.Steps.{number_some}
@@ -65,24 +62,13 @@ pub digits_all : (ds : List ℕ) → list_all is_ascii_digit ds ≡ all_digits d
 digits_all [] = refl
 digits_all (c ∷ cs) = let ih = digits_all cs in grind (arith, nat_tests)
 
--- digits are text
-pub digits_utf8 : (ds : List ℕ) → all_digits ds ≡ true → IsUtf8 ds
-digits_utf8 ds e = IsUtf8-from_ascii ds (IsAscii-from_digits ds (spelled_numerals.to ds e))
-
--- bytes that are text are no fault
-pub text_read : {A E : Type 0} (r : Result A E) (P : A → Type 0) (U : Type 0) (Q : E → Type 0) → MatchResult r P (λ e. (U → ⊥) × Q e) → U → result_ok r ≡ None → ⊥
-text_read (Ok x) P U Q m u e = cc
-text_read (Err y) P U Q m u e = m.0 u
-
--- the text has the bytes
-pub text_same : {E : Type 0} (r : Result (Bor (List ℕ)) E) (bs : List ℕ) (x : Bor (List ℕ)) (U : Type 0) (Q : E → Type 0) → MatchResult r (λ s. (s.now ≡ bs) × U) Q → result_ok r ≡ Some x → x.now ≡ bs
-text_same (Ok y) bs x U Q m e = (let k : y ≡ x = cc in ap (λ z. z.now) (sym k) ∙ m.0)
-text_same (Err d) bs x U Q m e = absurd cc
-
--- 1 to 8 digits with no leading nought are parsed as the number that they are
-pub number_parsed : {E : Type 0} (ds : List ℕ) (r : Result ℕ E) → ParsesUnsigned 32 10 ds r → 0 < length ds → length ds ≤ 8
-    → (get_or ds 0 0 ≡ 48 → length ds ≤ 1) → all_digits ds ≡ true → result_ok r ≡ number_in ds
-number_parsed ds r h a b f d =
-    let v : spelled_after 0 ds < 10 ^ 8 = digits_value_short spelled_numerals ds 8 d b in
-    let e : r ≡ Ok (spelled_after 0 ds) = parse_gives spelled_numerals 32 ds r h d a (omega arith) in
-    rw e (sym (number_some ds (spelled_after 0 ds) a b f d refl))
+-- at most 8 digits spell without a wrap what they spell, behind those that spell n
+pub digits_folded : (k n : ℕ) (ds : List ℕ) → n < 10 ^ k → k + length ds ≤ 8 → all_digits ds ≡ true → fold (λ m c. (m * 10 + (c - 48)) % 2 ^ 32) n ds ≡ spelled_after n ds
+digits_folded k n [] h l d = refl
+digits_folded k n (c ∷ cs) h l d =
+    let seven : k ≤ 7 = omega arith in
+    let most : 10 ^ k ≤ 10 ^ 7 = pow-le-pow_right (omega arith) seven in
+    let digit : c ≤ 57 = grind (arith, nat_tests) in
+    let whole : (n * 10 + (c - 48)) % 2 ^ 32 ≡ 10 * n + (c - 48) = omega arith in
+    let more : 10 * n + (c - 48) < 10 ^ (k + 1) = rw (add-one, pow-suc) (omega arith) in
+    rw whole (digits_folded (k + 1) (10 * n + (c - 48)) cs more (omega arith) (grind (arith, nat_tests)))

@@ -1,15 +1,29 @@
-ghost use Rattle.std.specs.Prelude.{◌≡◌, ◌<◌, ◌≤◌, ◌↔◌, min, length, take, IsSome};
+ghost use Rattle.std.specs.Prelude.{◌≡◌, ◌<◌, ◌≤◌, ◌↔◌, true, min, length, take, IsSome};
 ghost use Rattle.std.specs.Option.{unwrap_or};
 ghost use Rattle.std.specs.Str.{bytes_eq};
 ghost use Rattle.text.specs.Cuts.{cut_first, line_count};
-ghost use Rattle.text.specs.Numbers.{all_digits, number_in};
+ghost use Rattle.text.specs.Numbers.{all_digits, spelled_after, number_in};
 ghost use Rattle.text.specs.Runs.{set_in, run_in};
+
+use memchr::{memchr, memchr_iter};
 
 // Whether every byte is a decimal digit.
 pub fn all_digits(part: &[u8]) -> bool
     ensures { result ≡ all_digits part.now }
 {
     part.iter().all(|b| b.is_ascii_digit())
+}
+
+// The number that at most 8 digits spell.
+fn spelled(digits: &[u8]) -> u32
+    requires digits { all_digits digits.now ≡ true }
+    requires few { length digits.now ≤ 8 }
+    ensures { result ≡ spelled_after 0 digits.now }
+{
+    digits.iter().fold(0u32, |n, c| {
+        n.wrapping_mul(10)
+            .wrapping_add(u32::from(c.saturating_sub(b'0')))
+    })
 }
 
 // The number that a field is: 1 to 8 digits, with no leading nought but in 0 itself.
@@ -22,7 +36,7 @@ pub fn number_in(part: &[u8]) -> Option<u32>
     if !all_digits(part) {
         return None;
     }
-    str::from_utf8(part).ok()?.parse().ok()
+    Some(spelled(part))
 }
 
 // The set of steps that a field is: strictly rising digits 1 to `top`, and 8 at most; none is the empty set.
@@ -69,8 +83,8 @@ pub fn fields_in_line(bytes: &[u8]) -> Option<usize>
     ensures count { unwrap_or result 0 ≡ line_count bytes.now }
     ensures ended { IsSome result ↔ (0 < line_count bytes.now) }
 {
-    let end = bytes.iter().position(|b| *b == b'\n')?;
-    Some(bytes[..end].iter().filter(|b| **b == b',').count() + 1)
+    let end = memchr(b'\n', bytes)?;
+    Some(memchr_iter(b',', &bytes[..end]).count() + 1)
 }
 
 // Whether a field is this word.

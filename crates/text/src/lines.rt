@@ -48,7 +48,26 @@ impl Line {
         ensures most { length self.new ≤ length self.old + 11 }
     {
         self.bytes.push(b',');
-        self.word(Buffer::new().format(n).as_bytes());
+        if n < 100 {
+            self.few_digits(n);
+        } else {
+            self.word(Buffer::new().format(n).as_bytes());
+        }
+    }
+
+    // Adds the decimal of a number below 100, which needs no buffer.
+    fn few_digits(&mut self, n: u32)
+        requires small { n < 100 }
+        requires room { length self.old + 2 ≤ 128 }
+        ensures text { self.new ≡ self.old ++ decimal n }
+        ensures most { length self.new ≤ length self.old + 2 }
+    {
+        if n < 10 {
+            self.bytes.push(b'0' + n as u8);
+            return;
+        }
+        self.bytes.push(b'0' + (n / 10) as u8);
+        self.bytes.push(b'0' + (n % 10) as u8);
     }
 
     // Adds a comma and the rising digits of the steps 1 to 6 that are in the set.

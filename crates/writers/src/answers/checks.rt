@@ -1,5 +1,5 @@
 // The answer to a sheet: the sheet again, or the line that names its first fault.
-ghost use Rattle.std.specs.Prelude.{◌≡◌, take};
+ghost use Rattle.std.specs.Prelude.{◌≡◌, ◌≤◌, length, take};
 ghost use Rattle.drawing.specs.Shown.{plan_of};
 ghost use Rattle.sheets.specs.Texts.{sheet_text, refused_text};
 ghost use Rattle.writers.specs.Answers.{answer_bytes, checked_text};
@@ -34,7 +34,8 @@ impl Answer {
 
     // One line.
     pub fn line(line: &Line) -> Answer
-        ensures { answer_bytes result ≡ line.now }
+        ensures holds { answer_bytes result ≡ line.now }
+        ensures most { length line.now ≤ 128 }
     {
         let mut bytes = [0; LONGEST];
         let end = line.add(&mut bytes, 0).unwrap();
